@@ -8,6 +8,7 @@ _gmbench_options() {
         recover) echo --registry --shelf --existing --explain --wait --without --key --help ;;
         status | list | audit) echo --registry --shelf --existing --explain --wait --json --read-only --help ;;
         scrub) echo --registry --shelf --explain --wait --json --quiet --help ;;
+        check) echo --registry --shelf --explain --wait --data --json --quiet --help ;;
         do) echo --registry --shelf --existing --explain --wait --unchecked --force --help ;;
         batch) echo --registry --shelf --existing --explain --wait --audit --stop --help ;;
         sync) echo --registry --shelf --explain --wait --unchecked --quiet --help ;;
@@ -60,7 +61,7 @@ _gmbench_offer_paths() {
 }
 
 _gmbench() {
-    local subcommands='dump taste pending recover status list audit scrub do batch sync serve help'
+    local subcommands='dump taste pending recover status list audit scrub check do batch sync serve help'
     local commands='label insert remove deactivate activate forget rebuild configure clear destroy lost advance adopt patch'
     local word=${COMP_WORDS[COMP_CWORD]} shelf=${GMBENCH_SHELF-} option='' names=() before
     COMPREPLY=()

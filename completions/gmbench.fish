@@ -84,6 +84,7 @@ for line in 'dump:Print what the last sector of an image says' \
     'list:Show all that is known of the mirrors' \
     'audit:List components that are not as they are registered' \
     'scrub:Compare the data of components' \
+    'check:Say whether all is well' \
     'do:Carry out one command' \
     'batch:Carry out the commands of standard input' \
     'sync:Fill the components that are SYNCHRONIZING' \
@@ -95,14 +96,15 @@ for line in 'dump:Print what the last sector of an image says' \
 end
 
 # The options of subcommands.
-set -l at_bench pending recover status list audit scrub do batch sync serve
+set -l at_bench pending recover status list audit scrub check do batch sync serve
 complete -c gmbench -n "__gmbench_in dump taste $at_bench" -s h -l help -d 'Print help'
 complete -c gmbench -n "__gmbench_in $at_bench" -l registry -r -F -d 'The registry'
 complete -c gmbench -n "__gmbench_in dump taste $at_bench" -l shelf -x -a '(__fish_complete_directories)' \
     -d 'The folder with the images'
-complete -c gmbench -n '__gmbench_in dump taste status list audit scrub' -l json -d 'Print JSON'
+complete -c gmbench -n '__gmbench_in dump taste status list audit scrub check' -l json -d 'Print JSON'
 complete -c gmbench -n '__gmbench_in status list audit' -l read-only -d 'Carry out nothing, and write nothing'
-complete -c gmbench -n '__gmbench_in scrub sync' -l quiet -d 'Do not say how far it is'
+complete -c gmbench -n '__gmbench_in scrub check sync' -l quiet -d 'Do not say how far it is'
+complete -c gmbench -n '__gmbench_in check' -l data -d 'Compare the data too'
 complete -c gmbench -n '__gmbench_in batch serve' -l audit -d 'Look at the images before each command'
 complete -c gmbench -n '__gmbench_in batch' -l stop -d 'End at the first line that is refused'
 complete -c gmbench -n '__gmbench_in recover status list audit do batch serve' -l existing -d 'Make no registry'

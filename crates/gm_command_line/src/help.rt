@@ -6,10 +6,10 @@ pub(crate) const MORE: &str =
 images. If there is no registry, recover, status, list, audit, batch, serve, and do with label or
 adopt make one, and say so; with --existing they don't. Each first carries out what a run that
 stopped left pending; recover can go on without an image that is gone for good. dump and taste look
-at images alone, and write nothing. Nor does pending, nor status, list and audit with --read-only:
-they show the registry as it is. If --registry or --shelf is left out, GMBENCH_REGISTRY or
-GMBENCH_SHELF of the environment is taken. GMBENCH_EXISTING=1 and GMBENCH_EXPLAIN=1 are --existing
-and --explain.
+at images alone, and write nothing. Nor do pending and check, nor status, list and audit with
+--read-only: they show the registry as it is. If --registry or --shelf is left out, GMBENCH_REGISTRY
+or GMBENCH_SHELF of the environment is taken. GMBENCH_EXISTING=1 and GMBENCH_EXPLAIN=1 are
+--existing and --explain.
 
 With --explain, or if standard error is a terminal, a sentence there says what a refusal or a fault
 means.
@@ -131,6 +131,21 @@ prints a line for each that differs, and one for each that can't be compared:
   PROV differs in N sectors, first K
   PROV isn't compared
 It writes nothing, and doesn't say which is right.";
+
+/// What the help of `check` says below its options.
+pub(crate) const CHECKING: &str =
+    "It prints how the mirrors stand, as `status` does, and below that a line for each thing that is
+amiss, with the registry's use and a verdict at the end:
+  PROV HOW                how an image stands that isn't as it is registered
+  PROV differs in N sectors, first K
+  PROV isn't compared     with --data, as `scrub` prints them
+  N writes are pending    a run that stopped left them; the next command carries them out
+  commands N of 100000, mirrors N of 64, registry N bytes
+  all is well             or `not all is well`: something is amiss, or a mirror isn't COMPLETE
+The status is 0 if all is well, and else 1.
+
+Example, for a night's job:
+  gmbench check --registry registry --shelf images --data --quiet";
 
 /// What the help of `serve` says below its options.
 pub(crate) const REQUESTS: &str =

@@ -69,6 +69,16 @@ pub struct Comparing {
     pub is_quiet: bool,
 }
 
+/// How a registry and its images are to be checked.
+#[derive(Clone, Copy)]
+pub struct Checking {
+    /// Whether the data of components are compared too.
+    pub compares: bool,
+    pub form: Form,
+    /// Whether nothing is told of how far it is.
+    pub is_quiet: bool,
+}
+
 /// What is looked at before one command is handed in.
 #[derive(Clone, Copy)]
 pub struct Checks {
@@ -185,6 +195,12 @@ pub enum Job<'a> {
     /// Look at a registry and a folder, and open no bench.
     LookAt {
         look: Look,
+        registry: &'a str,
+        folder: &'a str,
+    },
+    /// Check a registry and the images of a folder, and open no bench.
+    Check {
+        checking: Checking,
         registry: &'a str,
         folder: &'a str,
     },

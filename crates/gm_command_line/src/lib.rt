@@ -10,6 +10,8 @@ mod reading;
 mod settings;
 mod table;
 
-pub use job::{Asked, Checks, Comparing, Filling, Form, Job, Look, Manner, Scope, Service, Work};
+pub use job::{
+    Asked, Checking, Checks, Comparing, Filling, Form, Job, Look, Manner, Scope, Service, Work,
+};
 pub use reading::asked_of;
 pub use settings::{EXISTING, EXPLAIN, REGISTRY, SHELF, Setting, Settings};

@@ -1,7 +1,7 @@
 //! What the program's own words ask for.
 
 use crate::job::{
-    Asked, Checks, Comparing, Filling, Form, Job, Look, Manner, Scope, Service, Work,
+    Asked, Checking, Checks, Comparing, Filling, Form, Job, Look, Manner, Scope, Service, Work,
 };
 use crate::settings::{REGISTRY, SHELF, Setting, Settings};
 use crate::table::{DUMP, RECOVER, SCRUB, SYNC, Subcommand, program, program_command};
@@ -243,6 +243,14 @@ fn comparing_of<'a>(
     })
 }
 
+fn checking_of(given: &ArgMatches<'_>) -> Checking {
+    Checking {
+        compares: given.get_flag("data"),
+        form: form_of(given),
+        is_quiet: given.get_flag("quiet"),
+    }
+}
+
 // The key and the command of `do`, whose words are the last of the program's.
 fn command_of<'a>(given: &ArgMatches<'a>, words: &'a [&'a str]) -> Work<'a> {
     let count = match given.get_strs("words") {
@@ -293,6 +301,11 @@ fn without_bench<'a>(
 ) -> Result<Job<'a>, Error> {
     match name {
         "pending" => pending_of(alloc, given, settings),
+        "check" => Ok(Job::Check {
+            checking: checking_of(given),
+            registry: registry_of(alloc, given, settings)?,
+            folder: folder_of(alloc, given, settings)?,
+        }),
         "taste" => Ok(Job::Taste {
             folder: folder_of(alloc, given, settings)?,
             form: form_of(given),

@@ -1,6 +1,6 @@
 //! The table of the program's own words, for `clap`.
 
-use crate::help::{COMPARING, FILLING, LINES, LOSSES, MORE, REQUESTS, WORDS, WRITES};
+use crate::help::{CHECKING, COMPARING, FILLING, LINES, LOSSES, MORE, REQUESTS, WORDS, WRITES};
 use crate::settings::Settings;
 use clap::builder::ValueParser;
 use clap::{Arg, ArgAction, Command};
@@ -131,6 +131,11 @@ fn force_option<'a>(alloc: Global) -> Arg<'a> {
     flag(alloc, "force", help)
 }
 
+fn data_option<'a>(alloc: Global) -> Arg<'a> {
+    let help = "Compares the data of the components that are ACTIVE too";
+    flag(alloc, "data", help)
+}
+
 fn quiet_option<'a>(alloc: Global) -> Arg<'a> {
     let help = "Doesn't say how far it is";
     flag(alloc, "quiet", help)
@@ -184,6 +189,7 @@ enum Takes {
     BenchAndCommand,
     BenchAndScope,
     BenchAndMirror,
+    BenchAndData,
     BenchAndRequests,
 }
 
@@ -225,7 +231,7 @@ pub(crate) const SCRUB: Subcommand = Subcommand {
     takes: Takes::BenchAndMirror,
 };
 
-const SUBCOMMANDS: [Subcommand; 12] = [
+const SUBCOMMANDS: [Subcommand; 13] = [
     DUMP,
     Subcommand {
         name: "taste",
@@ -250,6 +256,11 @@ const SUBCOMMANDS: [Subcommand; 12] = [
         takes: Takes::Bench,
     },
     SCRUB,
+    Subcommand {
+        name: "check",
+        about: "Says whether all is well, and writes nothing",
+        takes: Takes::BenchAndData,
+    },
     Subcommand {
         name: "do",
         about: "Carries out one command",
@@ -365,6 +376,13 @@ fn with_mirror<'a>(alloc: Global, command: Command<'a>) -> Result<Command<'a>, A
         .arg(mirror_name(alloc))
 }
 
+fn with_data<'a>(alloc: Global, command: Command<'a>) -> Result<Command<'a>, AllocError> {
+    command
+        .arg(data_option(alloc))?
+        .arg(json_option(alloc))?
+        .arg(quiet_option(alloc))
+}
+
 fn with_requests<'a>(alloc: Global, command: Command<'a>) -> Result<Command<'a>, AllocError> {
     command
         .arg(port_option(alloc))?
@@ -385,6 +403,7 @@ impl Subcommand {
             Takes::BenchAndCommand => Some(WORDS),
             Takes::BenchAndScope => Some(FILLING),
             Takes::BenchAndMirror => Some(COMPARING),
+            Takes::BenchAndData => Some(CHECKING),
             Takes::BenchAndRequests => Some(REQUESTS),
         }
     }
@@ -411,7 +430,7 @@ impl Subcommand {
             _ => {}
         }
         let command = match self.takes {
-            Takes::BenchAndScope | Takes::BenchAndMirror => {
+            Takes::BenchAndScope | Takes::BenchAndMirror | Takes::BenchAndData => {
                 with_bench_there(alloc, command, settings)?
             }
             _ => with_bench(alloc, command, settings)?,
@@ -424,6 +443,7 @@ impl Subcommand {
             Takes::BenchAndCommand => with_command(alloc, command),
             Takes::BenchAndScope => with_scope(alloc, command),
             Takes::BenchAndMirror => with_mirror(alloc, command),
+            Takes::BenchAndData => with_data(alloc, command),
             Takes::BenchAndRequests => with_requests(alloc, command),
         }
     }

@@ -12,6 +12,8 @@ use Rattle.gm_taste.specs.declared.tasted.Tasted.{Tasted}
 use Rattle.gm_shelf.specs.declared.passed_over.PassedOver.{PassedOver}
 use Rattle.gm_json.specs.declared.audits.Difference.{Difference}
 use Rattle.gm_json.specs.Audits.{audit_data, difference_data, scrub_data}
+use Rattle.gm_json.specs.declared.checks.Checked.{Checked}
+use Rattle.gm_json.specs.Checks.{amiss_data, check_data}
 use Rattle.gm_json.specs.Mirrors.{component_data, list_data, mirror_data, standing_component, standing_mirror, status_data}
 use Rattle.gm_json.specs.Tastings.{filled_to, left_data, passed_data, tasted_component, tasted_mirror, tasted_with, tasting_data}
 
@@ -46,6 +48,14 @@ pub scrub_none : (differ : List Difference) (uncompared : List (List ℕ))
 scrub_none differ uncompared =
     rw (none_of_each difference_data differ (λ d. refl))
     (rw (none_of_each string uncompared (λ name. refl)))
+
+pub check_none : (c : Checked) → has_float (check_data c) ≡ false
+check_none c =
+    rw (none_of_each amiss_data c.amiss.now (λ a. refl))
+    (rw (none_of_each difference_data c.differ.now (λ d. refl))
+    (rw (none_of_each (λ m. standing_mirror m (members c.state.now.components m.name))
+        c.state.now.mirrors (λ m. standing_mirror_none m (members c.state.now.components m.name)))
+    (rw (none_of_each string c.uncompared.now (λ name. refl)))))
 
 tasted_with_none : (filled : Option ℕ) (x : Member) → has_float (tasted_with filled x) ≡ false
 tasted_with_none None x = refl

@@ -21,7 +21,7 @@ pub struct Difference {
     pub first: u64,
 }
 
-fn name_values(alloc: Global, names: &[Label]) -> Result<Vec<Value>, AllocError>
+pub(crate) fn name_values(alloc: Global, names: &[Label]) -> Result<Vec<Value>, AllocError>
     ensures { IfOk result (λ vs. items_view vs.items ≡ items_of (map string names.now)) }
 {
     let mut values = Vec::new(alloc);
@@ -54,7 +54,7 @@ fn difference_value(alloc: Global, difference: &Difference) -> Result<Value, All
     json!(in alloc; {"first": first, "name": name, "sectors": sectors})
 }
 
-fn difference_values(alloc: Global, differ: &[Difference]) -> Result<Vec<Value>, AllocError>
+pub(crate) fn difference_values(alloc: Global, differ: &[Difference]) -> Result<Vec<Value>, AllocError>
     ensures { IfOk result (λ vs. items_view vs.items ≡ items_of (map difference_data differ.now)) }
 {
     let mut values = Vec::new(alloc);

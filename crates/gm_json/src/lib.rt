@@ -1,16 +1,17 @@
 //! What gmbench says, as JSON: how the mirrors stand, what is known of them, what a last sector
-//! says, what is answered to a command, and what images show that were looked at, and what in their
-//! folder is no image.
+//! says, what is answered to a command, what images show that were looked at, what in their folder
+//! is no image, and what a check found.
 //!
 //! Each text is compact, with the keys of every object in byte order, and is the text that the
 //! library `serde_json` gives to a value. `specs/` says which value, key by key, as it is read:
 //! `Mirrors` of `mirrors.rt`, `Sectors` of `sectors.rt`, `Answers` of `answers.rt`, `Audits` of
-//! `audits.rt`, `Tastings` of `tastings.rt`, by the words of `Fields`. Nothing here knows of a
+//! `audits.rt`, `Checks` of `checks.rt`, `Tastings` of `tastings.rt`, by the words of `Fields`. Nothing here knows of a
 //! registry, a bench or a request, and of a shelf only what an entry is that it passes over.
 #![tactic(auto)]
 
 mod answers;
 mod audits;
+mod checks;
 mod mirrors;
 mod sectors;
 mod tastings;
@@ -18,6 +19,7 @@ mod text;
 
 pub use answers::{done_json, error_json, fault_json, refused_json, repeated_json};
 pub use audits::{Difference, audit_json, scrub_json};
+pub use checks::{Amiss, Checked, Usage, check_json};
 pub use mirrors::{list_json, mirror_json, status_json};
 pub use sectors::{decode_json, metadata_json};
 pub use tastings::tasting_json;

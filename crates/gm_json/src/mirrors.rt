@@ -70,7 +70,8 @@ fn standing_mirror(alloc: Global, m: &Mirror, members: &[Component]) -> Result<V
     Ok(Value::Object(map))
 }
 
-fn standing_mirrors(alloc: Global, state: &State) -> Result<Vec<Value>, AllocError>
+// Each mirror in the status.
+pub(crate) fn standing_mirrors(alloc: Global, state: &State) -> Result<Vec<Value>, AllocError>
     ensures { IfOk result (λ vs. items_view vs.items ≡ items_of
         (map (λ m. standing_mirror m (members state.now.components m.name)) state.now.mirrors)) }
 {

@@ -5,12 +5,12 @@ ghost use Rattle.gm_bench.specs.Benches.{progress_of};
 ghost use Rattle.gm_bench.specs.Phases.{TakesCommands};
 ghost use Rattle.gm_process.specs.Statuses.{MayRefuse, status_of_list};
 
+use crate::flaws::{flaws_apart, flaws_text};
 use gm_bench::Bench;
 use gm_command_line::{Comparing, Form};
 use gm_faults::Fault;
-use gm_json::{Difference, scrub_json};
-use gm_looks::{Flaw, Scrubbed};
-use gm_metadata::Label;
+use gm_json::scrub_json;
+use gm_looks::Scrubbed;
 use gm_process::{Meter, Status, Streams};
 use gm_reports::{Report, as_line, no_mirror, refused};
 use gm_shelf::Shelf;
@@ -18,39 +18,10 @@ use sqlite::Alter;
 use std::alloc::{AllocError, Global};
 use std::io::Write;
 
-// A line for each component.
-fn flaws_text(alloc: Global, found: &[Scrubbed]) -> Result<String, AllocError> {
-    let mut text = String::new(alloc);
-    for one in found {
-        let name = one.provider.as_str();
-        match one.flaw {
-            Flaw::Uncompared => writeln!(text, "{name} isn't compared")?,
-            Flaw::Differs { sectors: 1, first } => {
-                writeln!(text, "{name} differs in 1 sector, first {first}")?
-            }
-            Flaw::Differs { sectors, first } => {
-                writeln!(text, "{name} differs in {sectors} sectors, first {first}")?
-            }
-        }
-    }
-    Ok(text)
-}
-
-// The same as JSON.
+// They as JSON.
 fn flaws_json(alloc: Global, found: &[Scrubbed]) -> Result<String, AllocError> {
-    let mut differ: Vec<Difference> = Vec::new(alloc);
-    let mut uncompared: Vec<Label> = Vec::new(alloc);
-    for one in found {
-        match one.flaw {
-            Flaw::Uncompared => uncompared.push(one.provider)?,
-            Flaw::Differs { sectors, first } => differ.push(Difference {
-                provider: one.provider,
-                sectors,
-                first,
-            })?,
-        }
-    }
-    scrub_json(alloc, &differ, &uncompared)
+    let flaws = flaws_apart(alloc, found)?;
+    scrub_json(alloc, &flaws.differ, &flaws.uncompared)
 }
 
 /// Says which components were found otherwise than their mirror.

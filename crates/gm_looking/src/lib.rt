@@ -3,12 +3,18 @@
 //!
 //! `taste.rt` says what the images of a folder tell, `read_only.rt` has the commands that show a
 //! registry as it stands (`specs/Looks.antt` says how they end), and `comparing.rt` compares data.
+//! `checking.rt` looks at all of it at once, and `checked.rt` says whether all is well
+//! (`specs/Checks.antt`). `flaws.rt` has the lines of data that differ.
 #![tactic(auto)]
 
+mod checked;
+mod checking;
 mod comparing;
+mod flaws;
 mod read_only;
 mod taste;
 
+pub use checking::check_place;
 pub use comparing::scrub;
 pub use read_only::{look_at, show_pending, show_pending_at};
 pub use taste::taste_folder;

@@ -6,6 +6,7 @@ ghost use Rattle.gm_looks.specs.Texts.{pending_text};
 ghost use Rattle.gm_reports.specs.Reports.{IsDone};
 ghost use Rattle.gm_looking.specs.Looks.{MayShow};
 
+use crate::checked::push_pending;
 use gm_command_line::Look;
 use gm_faults::Fault;
 use gm_looks::{audit_shelf, pending_text, pending_text_on};
@@ -59,8 +60,8 @@ fn look_report<H: Shelf>(
     }
 }
 
-// Holds a folder beside others that look at its images, and tells why it can't.
-fn hold<I, O, E>(
+/// Holds a folder beside others that look at its images, and tells why it can't.
+pub(crate) fn hold<I, O, E>(
     rt: &HostRuntime,
     folder: &str,
     patience: Patience,
@@ -70,8 +71,8 @@ fn hold<I, O, E>(
     Ok(streams.explaining.heed(rt, folder, held)?)
 }
 
-// What a registry holds as it stands; one in use is tried again. Tells why it can't be read.
-fn records_at<I, O, E>(
+/// What a registry holds as it stands; one in use is tried again. Tells why it can't be read.
+pub(crate) fn records_at<I, O, E>(
     rt: &HostRuntime,
     registry: &str,
     patience: Patience,
@@ -94,8 +95,8 @@ fn records_at<I, O, E>(
     Err(Fault::from(StoreFault::Store))
 }
 
-// The images of a place, to be read alone.
-fn images_at<I, O, E>(
+/// The images of a place, to be read alone.
+pub(crate) fn images_at<I, O, E>(
     rt: &HostRuntime,
     place: Place<'_>,
     streams: &mut Streams<'_, I, O, E>,
@@ -154,10 +155,8 @@ pub fn look_at<I, O: Write, E: Write>(
     streams.explaining.failure = shelf.last_failure();
     let report = report?;
     streams.output.write_all(report.text.as_bytes())?;
-    match records.intents.len() {
-        0 => {}
-        1 => writeln!(streams.complaints, "1 write is pending")?,
-        pending => writeln!(streams.complaints, "{pending} writes are pending")?,
-    }
+    let mut pending = String::new(rt.alloc());
+    push_pending(&mut pending, records.intents.len())?;
+    streams.complaints.write_all(pending.as_bytes())?;
     Ok(report.status)
 }

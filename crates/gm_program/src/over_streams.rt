@@ -6,7 +6,7 @@ use clap::error::ErrorKind;
 use gm_command_line::{Asked, Job, Work, asked_of};
 use gm_dump::dump;
 use gm_faults::{Fault, explain_fault};
-use gm_looking::{look_at, show_pending, show_pending_at, taste_folder};
+use gm_looking::{check_place, look_at, show_pending, show_pending_at, taste_folder};
 use gm_process::{Environment, Patience, Place, Status, Streams};
 use std::io::{BufRead, Write};
 
@@ -58,6 +58,11 @@ fn perform<I: BufRead, O: Write, E: Write>(
             registry,
             folder,
         } => look_at(rt, look, Place { registry, folder }, patience, streams),
+        Job::Check {
+            checking,
+            registry,
+            folder,
+        } => check_place(rt, checking, Place { registry, folder }, patience, streams),
         Job::AtBench {
             ref work,
             registry,

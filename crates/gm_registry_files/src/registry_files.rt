@@ -28,6 +28,16 @@ pub fn is_there(rt: &HostRuntime, registry: &str) -> bool {
     }
 }
 
+/// How long a registry's own file is, in bytes. `Store` if it can't be looked at.
+pub fn length_of(rt: &HostRuntime, registry: &str) -> Result<u64, StoreFault>
+    ensures { IfErr result (λ fault. fault ≢ StoreFault.Unreadable) }
+{
+    match fs::metadata(rt, registry) {
+        Ok(found) => Ok(found.len()),
+        Err(e) => Err(file_fault(e)),
+    }
+}
+
 // The files of a registry that is there: its own, by whatever path it is named, and those that
 // SQLite puts beside it.
 fn files_of(rt: &HostRuntime, registry: &str) -> io::Result<Vec<FileId>> {

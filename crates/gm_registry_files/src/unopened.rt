@@ -10,7 +10,6 @@ use gm_shelf::FileId;
 use os::RangeLock;
 use sqlite::{Connection, FileStore, Files, Options};
 use sqlite_disk::Disk;
-use std::alloc::Global;
 use std::fs::{self, File};
 use std::hash::{BuildHasher, RandomState};
 use std::io::{self, ErrorKind};
@@ -83,28 +82,42 @@ fn opening_fault(fault: StoreFault, files: Files<OverlayDisk>) -> StoreFault {
     }
 }
 
-// What the registry of a store holds.
-fn records_in(
-    alloc: Global,
+// The registry of a store.
+fn registry_in(
     store: Connection<FileStore<OverlayDisk>>,
-) -> Result<Loaded, StoreFault> {
+) -> Result<Registry<FileStore<OverlayDisk>>, StoreFault> {
     if !store.is_autocommit() {
         return Err(StoreFault::Store);
     }
     match Registry::open(store) {
-        Ok(mut registry) => registry.load(alloc),
+        Ok(registry) => Ok(registry),
         Err(e) => Err(opening_fault(e.fault, e.store.into_store().close())),
+    }
+}
+
+// A registry as it stands, whose files stay locked as long as it is there.
+fn registry_at(
+    rt: &HostRuntime,
+    registry: &str,
+) -> Result<Registry<FileStore<OverlayDisk>>, StoreFault> {
+    let alloc = rt.alloc();
+    let random = RandomState::new(rt).map_err(file_fault)?;
+    let files = files_of(rt, registry, random.hash_one(&0u8)).map_err(file_fault)?;
+    match Connection::open_files(alloc, files, Options::new(random.hash_one(&1u8))) {
+        Ok(store) => registry_in(store),
+        Err((error, left)) => Err(opening_fault(StoreFault::from(error), left.into_files())),
     }
 }
 
 /// What a registry holds as it stands. `Store` if there is no such file, if another program has it
 /// open, or if its journal holds anything; `Unreadable` if an opening would say so.
 pub fn records_of(rt: &HostRuntime, registry: &str) -> Result<Loaded, StoreFault> {
-    let alloc = rt.alloc();
-    let random = RandomState::new(rt).map_err(file_fault)?;
-    let files = files_of(rt, registry, random.hash_one(&0u8)).map_err(file_fault)?;
-    match Connection::open_files(alloc, files, Options::new(random.hash_one(&1u8))) {
-        Ok(store) => records_in(alloc, store),
-        Err((error, left)) => Err(opening_fault(StoreFault::from(error), left.into_files())),
-    }
+    let mut opened = registry_at(rt, registry)?;
+    opened.load(rt.alloc())
+}
+
+/// How many commands a registry has accepted. It fails as `records_of`.
+pub fn accepted_of(rt: &HostRuntime, registry: &str) -> Result<u64, StoreFault> {
+    let mut opened = registry_at(rt, registry)?;
+    opened.accepted()
 }

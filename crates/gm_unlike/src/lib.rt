@@ -5,4 +5,4 @@
 
 mod text;
 
-pub use text::{unlike_lines, unlike_words};
+pub use text::{told_standing, unlike_lines, unlike_words};

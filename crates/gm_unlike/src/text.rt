@@ -7,8 +7,8 @@ ghost use Rattle.gm_unlike.specs.Texts.{told_standing, unlike_line, unlike_word}
 use gm_looks::{Standing, Unlike};
 use std::alloc::{AllocError, Global};
 
-// How the image of a component stands, for whoever wants to mend it.
-fn told_standing(standing: Standing) -> &'static str
+/// How the image of a component stands, in words for whoever wants to mend it.
+pub fn told_standing(standing: Standing) -> &'static str
     ensures { result.now ≡ told_standing standing }
 {
     match standing {

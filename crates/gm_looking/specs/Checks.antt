@@ -1,0 +1,73 @@
+-- When all is well, and what a check prints.
+use Rattle.std.specs.Prelude.{◌≡◌, ◌==◌, ◌&&◌, ◌++◌, ◌∷◌, ℕ, Bool, List, [], not, codes, count_by, flat_map, length, if◌then◌else◌}
+use Rattle.std.specs.Fmt.{decimal}
+use Rattle.std.specs.List.{list_all}
+use Rattle.std.specs.String.{string_bytes}
+use Rattle.gm_metadata.specs.Images.{same_label}
+use Rattle.gm_state.specs.declared.records.Mirror.{Mirror}
+use Rattle.gm_state.specs.Lookups.{is_active}
+use Rattle.gm_state.specs.Records.{Records}
+use Rattle.gm_looks.specs.declared.scrub.Flaw.{Flaw}
+use Rattle.gm_looks.specs.declared.scrub.Flaw.TheVariants.{Uncompared, Differs}
+use Rattle.gm_looks.specs.declared.scrub.Scrubbed.{Scrubbed}
+use Rattle.gm_unlike.specs.Texts.{unlike_line}
+use Rattle.gm_words.specs.Lines.{line}
+use Rattle.gm_words.specs.Status.{status_text}
+use Rattle.gm_command_line.specs.declared.job.Form.{Form}
+use Rattle.gm_command_line.specs.declared.job.Form.TheVariants.{Text}
+use Rattle.gm_process.specs.Statuses.{status_of_refused}
+use Rattle.gm_reports.specs.declared.report.Report.{Report}
+use Rattle.gm_looking.specs.declared.checked.Found.{Found}
+
+-- as many components of the mirror are ACTIVE as it has in all
+abbrev pub is_complete : Records → Mirror → Bool
+is_complete s m =
+    count_by (λ k. same_label k.mirror m.name && is_active k.disk) s.components == m.all
+
+-- nothing is pending, each image is as it is registered and has its mirror's data, as far as they
+-- were compared, and each mirror is COMPLETE
+abbrev pub is_well : Found → Bool
+is_well f = (f.pending == 0) && ((length f.unlike.now == 0) && ((length f.flaws.now == 0)
+    && list_all (is_complete f.state.now) f.state.now.mirrors))
+
+-- in so many sectors
+abbrev pub in_sectors : ℕ → List ℕ
+in_sectors n = if n == 1 then codes "1 sector" else decimal n ++ codes " sectors"
+
+-- how a component's data differ, or that they weren't compared
+abbrev pub flaw_words : Flaw → List ℕ
+flaw_words Uncompared = codes " isn't compared"
+flaw_words (Differs sectors first) =
+    codes " differs in " ++ in_sectors sectors ++ codes ", first " ++ decimal first
+
+abbrev pub flaw_line : Scrubbed → List ℕ
+flaw_line x = line (x.provider ++ flaw_words x.flaw)
+
+-- how many writes are pending, if any are
+abbrev pub pending_lines : ℕ → List ℕ
+pending_lines n =
+    if n == 0 then []
+    else if n == 1 then codes "1 write is pending\n"
+    else decimal n ++ codes " writes are pending\n"
+
+-- how much of the registry is used
+abbrev pub usage_line : Found → List ℕ
+usage_line f = line (
+    codes "commands " ++ decimal f.commands ++ codes " of 100000, mirrors "
+    ++ decimal (length f.state.now.mirrors) ++ codes " of 64, registry " ++ decimal f.bytes
+    ++ codes " bytes")
+
+-- what it comes to
+abbrev pub verdict : Bool → List ℕ
+verdict well = if well then codes "all is well\n" else codes "not all is well\n"
+
+-- how the mirrors stand, what is amiss, and how much of the registry is used
+abbrev pub check_text : Found → List ℕ
+check_text f =
+    status_text f.state.now ++ flat_map unlike_line f.unlike.now ++ flat_map flaw_line f.flaws.now
+    ++ pending_lines f.pending ++ usage_line f ++ verdict (is_well f)
+
+-- refused unless all is well, with these lines if lines are asked for
+pub record IsChecked (f : Found) (form : Form) (report : Report) : Type 0 where
+  pub status : report.status ≡ status_of_refused (not (is_well f))
+  pub text : form ≡ Text → string_bytes report.text ≡ check_text f
