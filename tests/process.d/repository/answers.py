@@ -3,7 +3,7 @@
     answers.py TOP
 
 Each link of README.md, CHANGELOG.md, CONTRIBUTING.md and docs/*.md to a file of the repository has its file, and its heading
-if it names one. And some questions that readers have are answered on a page that two links from README.md lead to, at most:
+if it names one. Each source that such a page names as code is a file of the repository. And some questions that readers have are answered on a page that two links from README.md lead to, at most:
 there is a part of it, from a heading to the next one, with all that the answer consists of.
 """
 
@@ -24,6 +24,9 @@ QUESTIONS = (
 )
 LINK = re.compile(r"(?<!!)\[[^\]]*\]\(([^)\s]+)\)")
 ELSEWHERE = re.compile(r"[a-z][a-z0-9+.-]*:")
+# A source that is named as code. Braces stand for several, and capitals for any: `proofs/MODULE/Answers.antt`.
+SOURCE = re.compile(r"`([\w./{},-]+\.(?:rt|antt|edit|sh|py|md))`")
+ANY = re.compile(r"(?:^|/)[A-Z]+/")
 
 
 def prose_of(text):
@@ -63,6 +66,34 @@ def leads_nowhere(top, to, heading):
     return None
 
 
+def files_of(top):
+    """The files of the repository, each after a slash, without what isn't kept in it."""
+    found = []
+    for folder, folders, names in os.walk(top):
+        folders[:] = [it for it in folders if it not in (".git", "out", "bin")]
+        found += [f"/{os.path.relpath(os.path.join(folder, it), top)}" for it in names]
+    return found
+
+
+def several(source):
+    """The sources that braces stand for."""
+    begin, brace, rest = source.partition("{")
+    if not brace:
+        return [source]
+    middle, _, end = rest.partition("}")
+    return [it for name in middle.split(",") for it in several(f"{begin}{name.strip()}{end}")]
+
+
+def sources_of(text):
+    """The sources that a page names: the line, and the end of the path."""
+    for number, kind, line in lines_of(text):
+        if kind != "code":
+            for found in SOURCE.findall(line):
+                for source in several(found):
+                    if not ANY.search(source):
+                        yield number, source
+
+
 def reached(top):
     """The pages that at most so many links lead to, each after those that are nearer."""
     found, last = [START], [START]
@@ -93,6 +124,7 @@ def answers(top, name, wanted):
 
 
 def main(top):
+    files = files_of(top)
     for name in pages_of(top):
         wrong = False
         for number, target, to, heading in links_of(top, name):
@@ -102,6 +134,11 @@ def main(top):
                 wrong = True
         if not wrong:
             print(f"ok {name}, links lead somewhere")
+        lacking = [(n, it) for n, it in sources_of(text_of(top, name)) if not any(file.endswith(f"/{it}") for file in files)]
+        for number, source in lacking:
+            print(f"failed {name}, the sources that it names are there: line {number}: {source}")
+        if not lacking:
+            print(f"ok {name}, the sources that it names are there")
     near = reached(top)
     for question, wanted in QUESTIONS:
         found = [it for it in near if answers(top, it, wanted)]

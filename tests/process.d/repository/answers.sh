@@ -1,4 +1,4 @@
-# Each link of the documents leads somewhere, and what readers ask is answered within two links from README.md.
+# Each link and each source of the documents is there, and what readers ask is answered within two links from README.md.
 . "$helpers/expect.sh"
 . "$helpers/python.sh"
 
@@ -18,7 +18,8 @@ if has_python 'the links of the documents'; then
     changed='## A new refusal\n\n| its number | `gm_refusals`: `src/refusals.rt` |\n| its sentence | `gm_sentences` |\n'
     begin() {
         rm -rf "$refused"
-        mkdir -p "$refused/docs"
+        mkdir -p "$refused/docs" "$refused/crates/gm_refusals/src"
+        : >"$refused/crates/gm_refusals/src/refusals.rt"
         printf '# One\n\nSee [use](docs/USE.md#add-a-spare), [proofs](docs/PROOF.md) and [how](CONTRIBUTING.md).\n' >"$refused/README.md"
         printf "# Use\n\n$spare$trust" >"$refused/docs/USE.md"
         printf "# Proofs\n\n$proved" >"$refused/docs/PROOF.md"
@@ -53,6 +54,10 @@ $far which image is to be trusted: none of $all says it"
     expect_told 'links to a heading that there is not, and out of the repository' \
         'failed docs/USE.md, links lead somewhere: line 11: ../docs/USE.md#spare: there is no such heading
 failed docs/USE.md, links lead somewhere: line 11: ../../README.md: there is no such file'
+    begin
+    echo 'It is in `src/{refusals,tests}.rt` and `proofs/MODULE/Answers.antt`.' >>"$refused/CONTRIBUTING.md"
+    expect_told 'a source that there is not' \
+        'failed CONTRIBUTING.md, the sources that it names are there: line 10: src/tests.rt'
     begin
     printf '## A b: `c_d`, (e)!\n\n## Two\n\n## Two\n\n[one](#a-b-c_d-e), [two](#two), [more](#two-1)\n' >>"$refused/docs/USE.md"
     expect_told 'anchors of headings' ''
