@@ -1,4 +1,4 @@
-"""Each call on a file of `sync`, `scrub`, `pending` and looks with --read-only, which fails once.
+"""Each call on a file of `sync`, `scrub`, `check`, `pending` and looks with --read-only, which fails once.
 
     each_call.py PROGRAM PRELOADED FOLDER
 
@@ -102,7 +102,8 @@ place.keep("made")
 run(["batch"], b"k6 advance gm0 c.img\n", WITHIN=place.images + "/", FAIL="9")
 place.keep("stopped")
 assert run(["pending"])[1] != "", "nothing is pending"
-for look in (["pending"], ["status", "--read-only"], ["list", "--read-only"], ["audit", "--read-only"]):
+LOOKS = (["pending"], ["status", "--read-only"], ["list", "--read-only"], ["audit", "--read-only"], ["check", "--data", "--quiet"])
+for look in LOOKS:
     try_each(" ".join(look), look, "stopped", is_as_kept("stopped"))
 try_each("scrub", ["scrub", "--quiet"], "made", images_stay)
 try_each("scrub behind a stop", ["scrub", "--quiet"], "stopped", images_stay)

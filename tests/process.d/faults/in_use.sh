@@ -7,7 +7,7 @@
 fresh_bench waited-for
 at_bench recover
 begin_batch 'k1 clear b.img\n'
-for command in recover status list audit sync scrub; do
+for command in recover status list audit sync scrub check; do
     at_bench $command --explain
     expect "$command doesn't wait by itself" 3 '' "$broken
 input or output: another gmbench holds the folder $bench/images"

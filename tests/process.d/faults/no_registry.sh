@@ -43,7 +43,7 @@ for command in insert remove deactivate activate forget rebuild configure clear 
     expect "do with $command makes none" 3 '' "$said"
     expect_none "do with $command leaves none" "$registry"
 done
-for command in sync scrub pending; do
+for command in sync scrub check pending; do
     at_bench $command
     expect "$command makes none" 3 '' "$fault"
     at_bench $command --explain
