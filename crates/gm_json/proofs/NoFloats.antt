@@ -54,7 +54,7 @@ check_none c =
     rw (none_of_each amiss_data c.amiss.now (λ a. refl))
     (rw (none_of_each difference_data c.differ.now (λ d. refl))
     (rw (none_of_each (λ m. standing_mirror m (members c.state.now.components m.name))
-        c.state.now.mirrors (λ m. standing_mirror_none m (members c.state.now.components m.name)))
+    c.state.now.mirrors (λ m. standing_mirror_none m (members c.state.now.components m.name)))
     (rw (none_of_each string c.uncompared.now (λ name. refl)))))
 
 tasted_with_none : (filled : Option ℕ) (x : Member) → has_float (tasted_with filled x) ≡ false

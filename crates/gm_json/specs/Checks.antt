@@ -32,7 +32,7 @@ check_data c = object_of (
     each_at (codes "amiss") amiss_data c.amiss.now
     ∷ each_at (codes "differ") difference_data c.differ.now
     ∷ each_at (codes "mirrors")
-        (λ m. standing_mirror m (members c.state.now.components m.name)) c.state.now.mirrors
+    (λ m. standing_mirror m (members c.state.now.components m.name)) c.state.now.mirrors
     ∷ number_at (codes "pending") c.pending
     ∷ record { key = codes "registry"; value = usage_data c.registry }
     ∷ texts_at (codes "uncompared") c.uncompared.now

@@ -54,7 +54,10 @@ fn difference_value(alloc: Global, difference: &Difference) -> Result<Value, All
     json!(in alloc; {"first": first, "name": name, "sectors": sectors})
 }
 
-pub(crate) fn difference_values(alloc: Global, differ: &[Difference]) -> Result<Vec<Value>, AllocError>
+pub(crate) fn difference_values(
+    alloc: Global,
+    differ: &[Difference],
+) -> Result<Vec<Value>, AllocError>
     ensures { IfOk result (λ vs. items_view vs.items ≡ items_of (map difference_data differ.now)) }
 {
     let mut values = Vec::new(alloc);

@@ -1,8 +1,9 @@
 //! Every text is compact, with the keys of each object in byte order.
 
 use gm_json::{
-    Difference, audit_json, decode_json, done_json, error_json, fault_json, list_json,
-    metadata_json, mirror_json, refused_json, repeated_json, scrub_json, status_json, tasting_json,
+    Amiss, Checked, Difference, Usage, audit_json, check_json, decode_json, done_json, error_json,
+    fault_json, list_json, metadata_json, mirror_json, refused_json, repeated_json, scrub_json,
+    status_json, tasting_json,
 };
 use gm_metadata::{Balance, DecodeFault, DiskFlags, Label, Metadata, MirrorFlags};
 use gm_shelf::{NoImage, PassedOver};
@@ -64,6 +65,15 @@ const LIST: &str = concat!(
     r#""name":"c.img","offset":0,"priority":0,"provsize":2048,"state":"ACTIVE","syncid":1}],"#,
     r#""flags":0,"genid":0,"mediasize":1536,"mid":7,"name":"gm1","slice":4096,"#,
     r#""state":"COMPLETE","syncid":1}]"#
+);
+
+const CHECK: &str = concat!(
+    r#"{"amiss":[{"how":"absent","name":"b.img"}],"#,
+    r#""differ":[{"first":17,"name":"c.img","sectors":3}],"#,
+    r#""mirrors":[{"components":[{"name":"a.img","state":"ACTIVE"}],"#,
+    r#""name":"gm0","state":"COMPLETE"}],"pending":2,"#,
+    r#""registry":{"bytes":45056,"commands":17,"commands_of":100000,"mirrors":1,"#,
+    r#""mirrors_of":64},"uncompared":["b.img"],"well":false}"#
 );
 
 const SCRUB: &str = concat!(
@@ -276,6 +286,37 @@ fn components_that_were_looked_at_are_told(rt: HostRuntime) {
         first,
     });
     must_be(&rt, scrub_json(rt.alloc(), &differ, &[c]), SCRUB);
+}
+
+#[test]
+fn what_a_check_found_is_told(rt: HostRuntime) {
+    let (b, c) = (label(&rt, "b.img"), label(&rt, "c.img"));
+    let state = new_state(&rt);
+    let amiss = [Amiss {
+        provider: b,
+        how: "absent",
+    }];
+    let differ = [Difference {
+        provider: c,
+        sectors: 3,
+        first: 17,
+    }];
+    let found = Checked {
+        state: &state,
+        amiss: &amiss,
+        differ: &differ,
+        uncompared: &[b],
+        pending: 2,
+        registry: Usage {
+            bytes: 45_056,
+            commands: 17,
+            commands_of: 100_000,
+            mirrors: 1,
+            mirrors_of: 64,
+        },
+        is_well: false,
+    };
+    must_be(&rt, check_json(rt.alloc(), &found), CHECK);
 }
 
 fn group(rt: &(impl Abort + AllocGlobal), mid: u32, name: &str, members: &[Member]) -> Group {

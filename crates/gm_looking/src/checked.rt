@@ -51,7 +51,11 @@ fn is_well(found: &Found<'_>) -> bool
     found.pending == 0
         && found.unlike.is_empty()
         && found.flaws.is_empty()
-        && found.state.mirrors().iter().all(|m| is_complete(found.state, m))
+        && found
+            .state
+            .mirrors()
+            .iter()
+            .all(|m| is_complete(found.state, m))
 }
 
 /// Appends how many writes are pending, if any are.
@@ -74,7 +78,10 @@ fn push_usage(text: &mut String, found: &Found<'_>) -> Result<(), AllocError>
     let mirrors = found.state.mirrors().len();
     let bytes = found.bytes;
     write!(text, "commands {commands} of {MAX_COMMANDS}, ")?;
-    writeln!(text, "mirrors {mirrors} of {MAX_MIRRORS}, registry {bytes} bytes")
+    writeln!(
+        text,
+        "mirrors {mirrors} of {MAX_MIRRORS}, registry {bytes} bytes"
+    )
 }
 
 // What it comes to.
