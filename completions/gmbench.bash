@@ -36,6 +36,14 @@ _gmbench_wants_image() {
     esac
 }
 
+# Whether the name that follows this command after the key of `do` is that of a mirror which is registered.
+_gmbench_wants_mirror() {
+    case $1 in
+        insert | remove | deactivate | activate | forget | rebuild | configure | destroy | lost | advance | patch) true ;;
+        *) false ;;
+    esac
+}
+
 # Offers those of these words that begin as the word at the cursor.
 _gmbench_offer() {
     local offered
@@ -54,16 +62,34 @@ _gmbench_offer_images() {
     done
 }
 
+# Offers the mirrors of the registry, which is only looked at.
+_gmbench_offer_mirrors() {
+    local line
+    [[ -n $registry && -n $shelf ]] || return
+    while IFS= read -r line; do
+        [[ $line == ' '* || $line == 'no mirrors' ]] || _gmbench_offer "${line%% *}"
+    done < <(command gmbench status --read-only --registry "${registry/#\~\//$HOME/}" --shelf "${shelf/#\~\//$HOME/}" 2>/dev/null)
+}
+
 # Offers files or folders of any name.
 _gmbench_offer_paths() {
     mapfile -t COMPREPLY < <(compgen "$1" -- "$word")
     compopt -o filenames 2>/dev/null
 }
 
+# Offers what may follow so many names, of which the third is this command after the key of `do`.
+_gmbench_offer_names() {
+    if [[ $2 = 3 ]] && _gmbench_wants_mirror "$1"; then
+        _gmbench_offer_mirrors
+    elif _gmbench_wants_image "$1" "$2"; then
+        _gmbench_offer_images
+    fi
+}
+
 _gmbench() {
     local subcommands='dump taste pending recover status list audit scrub check do batch sync serve help'
     local commands='label insert remove deactivate activate forget rebuild configure clear destroy lost advance adopt patch'
-    local word=${COMP_WORDS[COMP_CWORD]} shelf=${GMBENCH_SHELF-} option='' names=() before
+    local word=${COMP_WORDS[COMP_CWORD]} registry=${GMBENCH_REGISTRY-} shelf=${GMBENCH_SHELF-} option='' names=() before
     COMPREPLY=()
 
     # What stands before the cursor: names, the subcommand first, and maybe an option that wants a value.
@@ -71,7 +97,10 @@ _gmbench() {
         if [[ -n $option ]]; then
             [[ $before != = ]] || continue
             # As it is typed it has the quotes of a shell, which xargs takes away, and nothing of it is carried out.
-            [[ $option != --shelf ]] || shelf=$(xargs printf %s <<<"$before" 2>/dev/null)
+            case $option in
+                --registry) registry=$(xargs printf %s <<<"$before" 2>/dev/null) ;;
+                --shelf) shelf=$(xargs printf %s <<<"$before" 2>/dev/null) ;;
+            esac
             option=
             continue
         fi
@@ -97,7 +126,8 @@ _gmbench() {
         case ${names[0]-},${#names[@]} in
             ,0 | help,1) _gmbench_offer $subcommands ;;
             do,2) _gmbench_offer $commands ;;
-            do,*) ! _gmbench_wants_image "${names[2]-}" ${#names[@]} || _gmbench_offer_images ;;
+            scrub,1 | sync,1) _gmbench_offer_mirrors ;;
+            do,*) _gmbench_offer_names "${names[2]-}" ${#names[@]} ;;
             dump,1 | sync,2) _gmbench_offer_images ;;
         esac
         [[ ${#COMPREPLY[@]} = 0 ]] || return

@@ -35,6 +35,13 @@ function __gmbench_doing
     test "$names[1]" = do; and contains -- "$names[3]" $argv
 end
 
+# Whether a mirror may be named here after the key of `do`.
+function __gmbench_doing_mirrors
+    set -l names (__gmbench_names)
+    test "$names[1]" = do -a (count $names) -eq 3; or return
+    contains -- "$names[3]" insert remove deactivate activate forget rebuild configure destroy lost advance patch
+end
+
 # Whether an image may stand here after the key of `do`.
 function __gmbench_doing_images
     set -l names (__gmbench_names)
@@ -51,20 +58,35 @@ function __gmbench_doing_images
     end
 end
 
-# The regular files of the folder that --shelf or the environment names.
-function __gmbench_images
-    set -l shelf $GMBENCH_SHELF
+# The path that an option before the cursor has, or else this one.
+function __gmbench_path
+    set -l path $argv[2]
     set -l before
     for word in (commandline -opc)
-        if test "$before" = --shelf
-            set shelf $word
-        else if string match -q -- '--shelf=*' $word
-            set shelf (string replace -- --shelf= '' $word)
+        if test "$before" = $argv[1]
+            set path $word
+        else if string match -q -- "$argv[1]=*" $word
+            set path (string replace -- "$argv[1]=" '' $word)
         end
         set before $word
     end
-    test -n "$shelf"; or return
-    set shelf (string replace -r -- '^~/' $HOME/ $shelf)
+    test -n "$path"; or return
+    string replace -r -- '^~/' $HOME/ $path
+    true
+end
+
+# The mirrors of the registry, which is only looked at.
+function __gmbench_mirrors
+    set -l registry (__gmbench_path --registry "$GMBENCH_REGISTRY"); or return
+    set -l shelf (__gmbench_path --shelf "$GMBENCH_SHELF"); or return
+    command -q gmbench; or return
+    command gmbench status --read-only --registry $registry --shelf $shelf 2>/dev/null \
+        | string match -rv '^ |^no mirrors$' | string replace -r ' .*' ''
+end
+
+# The regular files of the folder that --shelf or the environment names.
+function __gmbench_images
+    set -l shelf (__gmbench_path --shelf "$GMBENCH_SHELF"); or return
     for path in $shelf/*
         set -l name (string replace -r '.*/' '' $path)
         test -f $path -a ! -L $path; and string match -r '^[A-Za-z0-9._-]+$' -- $name
@@ -118,6 +140,11 @@ complete -c gmbench -n '__gmbench_in serve' -l port -x -d 'The port on 127.0.0.1
 complete -c gmbench -n '__gmbench_in serve' -l count -x -d 'How many connections are served'
 complete -c gmbench -n '__gmbench_in serve' -l log -d 'Log each connection'
 complete -c gmbench -n '__gmbench_in serve' -l any-origin -d 'Answer web pages too'
+
+# Mirrors, if a subcommand wants one.
+complete -c gmbench -n '__gmbench_behind scrub 0' -a '(__gmbench_mirrors)' -d Mirror
+complete -c gmbench -n '__gmbench_behind sync 0' -a '(__gmbench_mirrors)' -d Mirror
+complete -c gmbench -n __gmbench_doing_mirrors -a '(__gmbench_mirrors)' -d Mirror
 
 # Images, if a subcommand wants one.
 complete -c gmbench -n '__gmbench_behind dump 0' -a '(__gmbench_images)' -d Image

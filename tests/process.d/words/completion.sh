@@ -15,6 +15,18 @@ mkdir -p "$place/images/folder" "$place/other/two words"
 : >"$place/images/\$(touch made)"
 ln -s a.img "$place/images/link.img"
 
+# A registry with two mirrors, for which the program has to be found by its name.
+mirrored=$work/mirrored
+mkdir -p "$work/bin" "$mirrored/images"
+ln -s "$gmbench" "$work/bin/gmbench"
+PATH=$work/bin:$PATH
+registered="--registry $mirrored/registry --shelf $mirrored/images"
+for name in gm0 gm1; do
+    dd if=/dev/zero of="$mirrored/images/$name.img" bs=512 count=4 2>/dev/null
+    run do $registered "k-$name" label --mid "${name#gm}7" --did 1 "$name" "$name.img"
+done
+cp "$mirrored/registry" "$work/registry-before"
+
 # What the help says: the fourteen commands, and their words.
 command_lines >"$work/commands"
 commands=$(sed 's/ .*//' "$work/commands" | in_a_line)
@@ -89,6 +101,15 @@ try_bash() {
     expect_offered 'bash: no second image of a remove' "$(in_bash do --shelf images k1 remove gm0 a.img '')" ''
     expect_offered 'bash: no image of a forget' "$(in_bash do --shelf images k1 forget gm0 '')" ''
     expect_offered 'bash: the component of a priority' "$(in_bash do --shelf images k1 configure --prov '')" 'a.img b.img'
+    expect_offered 'bash: the mirrors of a registry' "$(in_bash scrub $registered '')" 'gm0 gm1'
+    expect_offered 'bash: a mirror that is begun' "$(in_bash do $registered k1 patch gm1)" gm1
+    expect_offered 'bash: no mirror of a label' "$(in_bash do $registered k1 label gm)" ''
+    expect_offered 'bash: the mirrors of the environment' "$(
+        export GMBENCH_REGISTRY="$mirrored/registry" GMBENCH_SHELF="$mirrored/images"
+        in_bash sync ''
+    )" 'gm0 gm1'
+    expect_offered 'bash: no registry, no mirrors' "$(in_bash sync --registry none --shelf images gm)" ''
+    expect_same 'bash: the registry is as it was' "$mirrored/registry" "$work/registry-before"
     expect_offered 'bash: how reads are shared out' "$(in_bash do k1 label --balance '')" 'load prefer round-robin split'
     expect_offered 'bash: on and off' "$(in_bash do k1 label --autosync '')" 'off on'
 }
@@ -154,6 +175,16 @@ else
         export GMBENCH_SHELF=images
         in_zsh 'gmbench dump b'
     )" b.img
+    for line in "scrub $registered" "sync $registered" "do $registered k1 insert" "do $registered k1 lost" \
+        "do $registered k1 patch"; do
+        expect_offered "zsh: the mirrors behind ${line%% *} ${line##* }" "$(in_zsh "gmbench $line ")" 'gm0 gm1'
+    done
+    expect_offered 'zsh: no mirror of a label' "$(in_zsh "gmbench do $registered k1 label ")" ''
+    expect_offered 'zsh: the mirrors of the environment' "$(
+        export GMBENCH_REGISTRY="$mirrored/registry" GMBENCH_SHELF="$mirrored/images"
+        in_zsh 'gmbench sync '
+    )" 'gm0 gm1'
+    expect_same 'zsh: the registry is as it was' "$mirrored/registry" "$work/registry-before"
     expect_offered 'zsh: no image of a forget' "$(in_zsh 'gmbench do --shelf images k1 forget gm0 ')" ''
     expect_none 'zsh: no name of a file is carried out' "$place/made"
     expect_offered 'zsh: a registry' "$(in_zsh 'gmbench status --registry r')" registry
@@ -188,6 +219,11 @@ if command -v fish >/dev/null; then
     expect_offered 'fish: no second image of a remove' "$(in_fish 'gmbench do --shelf images k1 remove gm0 a.img ')" ''
     expect_offered 'fish: no image of a forget' "$(in_fish 'gmbench do --shelf images k1 forget gm0 ')" ''
     expect_offered 'fish: a folder whose name has a space' "$(in_fish 'gmbench dump --shelf other/two\ words ')" c.img
+    for line in "scrub $registered" "sync $registered" "do $registered k1 remove"; do
+        expect_offered "fish: the mirrors behind ${line%% *} ${line##* }" "$(in_fish "gmbench $line ")" 'gm0 gm1'
+    done
+    expect_offered 'fish: no mirror of a label' "$(in_fish "gmbench do $registered k1 label ")" ''
+    expect_same 'fish: the registry is as it was' "$mirrored/registry" "$work/registry-before"
     expect_none 'fish: no name of a file is carried out' "$place/made"
     expect_offered 'fish: the commands of do' "$(in_fish 'gmbench do k1 ')" "$commands"
     while read -r word behind; do
