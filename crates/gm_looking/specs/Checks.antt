@@ -14,7 +14,7 @@ use Rattle.gm_unlike.specs.Texts.{unlike_line}
 use Rattle.gm_words.specs.Lines.{line}
 use Rattle.gm_words.specs.Status.{status_text}
 use Rattle.gm_command_line.specs.declared.job.Form.{Form}
-use Rattle.gm_command_line.specs.declared.job.Form.TheVariants.{Text}
+use Rattle.gm_command_line.specs.declared.job.Form.TheVariants.{Text, Json}
 use Rattle.gm_process.specs.Statuses.{status_of_refused}
 use Rattle.gm_reports.specs.declared.report.Report.{Report}
 use Rattle.gm_looking.specs.declared.checked.Found.{Found}
@@ -67,7 +67,13 @@ check_text f =
     status_text f.state.now ++ flat_map unlike_line f.unlike.now ++ flat_map flaw_line f.flaws.now
     ++ pending_lines f.pending ++ usage_line f ++ verdict (is_well f)
 
+-- these lines, if lines are asked for
+abbrev pub TellsCheck : Found → Form → List ℕ → Type 0
+TellsCheck f Text text = text ≡ check_text f
+TellsCheck f Json text = Unit {0}
+
 -- refused unless all is well, with these lines if lines are asked for
-pub record IsChecked (f : Found) (form : Form) (report : Report) : Type 0 where
-  pub status : report.status ≡ status_of_refused (not (is_well f))
-  pub text : form ≡ Text → string_bytes report.text ≡ check_text f
+abbrev pub IsChecked : Found → Form → Report → Type 0
+IsChecked f form report =
+    (report.status ≡ status_of_refused (not (is_well f)))
+    × TellsCheck f form (string_bytes report.text)
