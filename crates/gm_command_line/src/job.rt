@@ -5,6 +5,24 @@ ghost use Rattle.gm_command_line.specs.Works.{makes_registry, registers};
 
 use gm_metadata::Label;
 
+/// The commands that `do` and the lines of a batch have.
+pub const COMMANDS: [&str; 14] = [
+    "label",
+    "insert",
+    "remove",
+    "deactivate",
+    "activate",
+    "forget",
+    "rebuild",
+    "configure",
+    "clear",
+    "destroy",
+    "lost",
+    "advance",
+    "adopt",
+    "patch",
+];
+
 // Whether the first of these words is that of a command which registers a mirror.
 fn registers(words: &[&str]) -> bool
     ensures { result ≡ registers words.now }

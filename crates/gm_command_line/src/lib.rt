@@ -11,7 +11,8 @@ mod settings;
 mod table;
 
 pub use job::{
-    Asked, Checking, Checks, Comparing, Filling, Form, Job, Look, Manner, Scope, Service, Work,
+    Asked, COMMANDS, Checking, Checks, Comparing, Filling, Form, Job, Look, Manner, Scope, Service,
+    Work,
 };
 pub use reading::asked_of;
 pub use settings::{EXISTING, EXPLAIN, REGISTRY, SHELF, Setting, Settings};

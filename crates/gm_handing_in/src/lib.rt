@@ -5,7 +5,8 @@
 //! that come over connections; each says how the program ends then (`specs/Ends.antt`).
 //! `explainer.rt` says in a sentence why a command is refused, with `reason.rt` if the mirrors are
 //! known, and `withheld.rt` what is to be done if images stand in its way. `lost_by.rt` says what
-//! would be lost by a command, and asks whether it is carried out all the same.
+//! would be lost by a command, and asks whether it is carried out all the same. `tip.rt` says where
+//! words belong that are in a wrong place.
 #![tactic(auto)]
 
 mod batch;
@@ -14,6 +15,7 @@ mod lost_by;
 mod reason;
 mod serving;
 mod single;
+mod tip;
 mod withheld;
 
 pub use batch::{Lines, hand_in, hand_in_lines_of};

@@ -8,6 +8,7 @@ ghost use Rattle.gm_process.specs.Statuses.{MayRefuse, status_of_refused};
 
 use crate::explainer::Explainer;
 use crate::lost_by::lets_go;
+use crate::tip::say_tip;
 use gm_bench::Bench;
 use gm_command_line::Checks;
 use gm_commands::is_key;
@@ -87,6 +88,7 @@ fn tell<S: Alter, H: Shelf, I, O: Write, E: Write>(
     let mut explainer = explainer.knowing(state.as_ref());
     explainer.explain(words, outcome);
     explainer.explain_repeated(outcome);
+    say_tip(streams.complaints, words, outcome);
     status_of(outcome)
 }
 

@@ -157,6 +157,8 @@ input or output: there is no folder $work/nowhere"
     at_terminal 80 status --registry "$work/none" --shelf "$bench/images"
     expect 'a file that is no registry' 3 '' "gmbench: F2 store
 F2: $work/none isn't a registry: no database begins as it does"
+    at_terminal 80
+    expect 'no words' 0 'gmbench: GEOM_MIRROR version 4' 'try gmbench --help'
     stopped_remove gone
     rm "$bench/images/b.img"
     at_terminal 80 recover --registry "$registry" --shelf "$bench/images"
