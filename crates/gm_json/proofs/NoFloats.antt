@@ -13,7 +13,7 @@ use Rattle.gm_shelf.specs.declared.passed_over.PassedOver.{PassedOver}
 use Rattle.gm_json.specs.declared.audits.Difference.{Difference}
 use Rattle.gm_json.specs.Audits.{audit_data, difference_data, scrub_data}
 use Rattle.gm_json.specs.declared.checks.Checked.{Checked}
-use Rattle.gm_json.specs.Checks.{amiss_data, check_data}
+use Rattle.gm_json.specs.Checks.{check_data, unlike_data}
 use Rattle.gm_json.specs.Mirrors.{component_data, list_data, mirror_data, standing_component, standing_mirror, status_data}
 use Rattle.gm_json.specs.Tastings.{filled_to, left_data, passed_data, tasted_component, tasted_mirror, tasted_with, tasting_data}
 
@@ -51,7 +51,7 @@ scrub_none differ uncompared =
 
 pub check_none : (c : Checked) → has_float (check_data c) ≡ false
 check_none c =
-    rw (none_of_each amiss_data c.amiss.now (λ a. refl))
+    rw (none_of_each unlike_data c.unlike.now (λ x. refl))
     (rw (none_of_each difference_data c.differ.now (λ d. refl))
     (rw (none_of_each (λ m. standing_mirror m (members c.state.now.components m.name))
     c.state.now.mirrors (λ m. standing_mirror_none m (members c.state.now.components m.name)))

@@ -3,23 +3,17 @@
 ghost use Rattle.std.specs.Prelude.{◌≡◌, IfOk, map};
 ghost use Rattle.std.specs.String.{string_bytes};
 ghost use Rattle.serde_json.specs.View.{items_of, items_view, view};
-ghost use Rattle.gm_json.specs.Checks.{amiss_data, check_data, check_json, usage_data};
+ghost use Rattle.gm_json.specs.Checks.{check_data, check_json, unlike_data, usage_data};
 
 use crate::audits::{Difference, difference_values, name_values};
 use crate::mirrors::standing_mirrors;
 use crate::text::text_of;
+use gm_looks::Unlike;
 use gm_metadata::Label;
 use gm_state::State;
+use gm_unlike::told_standing;
 use serde_json::{Value, json};
 use std::alloc::{AllocError, Global};
-
-/// A component whose image isn't as it is registered.
-#[derive(Clone, Copy, Debug)]
-pub struct Amiss {
-    pub provider: Label,
-    /// How it stands, in words.
-    pub how: &'static str,
-}
 
 /// How much of a registry is used, and how much it takes.
 #[derive(Clone, Copy, Debug)]
@@ -38,7 +32,8 @@ pub struct Usage {
 #[derive(Clone, Copy)]
 pub struct Checked<'a> {
     pub state: &'a State,
-    pub amiss: &'a [Amiss],
+    /// The components whose images aren't as they are registered.
+    pub unlike: &'a [Unlike],
     /// The components whose data aren't their mirror's.
     pub differ: &'a [Difference],
     /// Those whose data weren't compared, because an image isn't there in its size.
@@ -49,20 +44,20 @@ pub struct Checked<'a> {
     pub is_well: bool,
 }
 
-fn amiss_value(alloc: Global, amiss: &Amiss) -> Result<Value, AllocError>
-    ensures { IfOk result (λ v. view v ≡ amiss_data amiss.now) }
+fn unlike_value(alloc: Global, unlike: &Unlike) -> Result<Value, AllocError>
+    ensures { IfOk result (λ v. view v ≡ unlike_data unlike.now) }
 {
-    let how = amiss.how;
-    let name = amiss.provider.as_str();
+    let how = told_standing(unlike.standing);
+    let name = unlike.provider.as_str();
     json!(in alloc; {"how": how, "name": name})
 }
 
-fn amiss_values(alloc: Global, list: &[Amiss]) -> Result<Vec<Value>, AllocError>
-    ensures { IfOk result (λ vs. items_view vs.items ≡ items_of (map amiss_data list.now)) }
+fn unlike_values(alloc: Global, list: &[Unlike]) -> Result<Vec<Value>, AllocError>
+    ensures { IfOk result (λ vs. items_view vs.items ≡ items_of (map unlike_data list.now)) }
 {
     let mut values = Vec::new(alloc);
-    for amiss in list {
-        values.push(amiss_value(alloc, amiss)?)?;
+    for unlike in list {
+        values.push(unlike_value(alloc, unlike)?)?;
     }
     Ok(values)
 }
@@ -82,7 +77,7 @@ fn usage_value(alloc: Global, usage: Usage) -> Result<Value, AllocError>
 fn check_value(alloc: Global, found: &Checked<'_>) -> Result<Value, AllocError>
     ensures { IfOk result (λ v. view v ≡ check_data found.now) }
 {
-    let amiss = amiss_values(alloc, found.amiss)?;
+    let amiss = unlike_values(alloc, found.unlike)?;
     let differ = difference_values(alloc, found.differ)?;
     let mirrors = standing_mirrors(alloc, found.state)?;
     let registry = usage_value(alloc, found.registry)?;

@@ -6,7 +6,8 @@
 //! library `serde_json` gives to a value. `specs/` says which value, key by key, as it is read:
 //! `Mirrors` of `mirrors.rt`, `Sectors` of `sectors.rt`, `Answers` of `answers.rt`, `Audits` of
 //! `audits.rt`, `Checks` of `checks.rt`, `Tastings` of `tastings.rt`, by the words of `Fields`. Nothing here knows of a
-//! registry, a bench or a request, and of a shelf only what an entry is that it passes over.
+//! registry, a bench or a request, and of a shelf only what an entry is that it passes over, and how
+//! an image stands.
 #![tactic(auto)]
 
 mod answers;
@@ -19,7 +20,7 @@ mod text;
 
 pub use answers::{done_json, error_json, fault_json, refused_json, repeated_json};
 pub use audits::{Difference, audit_json, scrub_json};
-pub use checks::{Amiss, Checked, Usage, check_json};
+pub use checks::{Checked, Usage, check_json};
 pub use mirrors::{list_json, mirror_json, status_json};
 pub use sectors::{decode_json, metadata_json};
 pub use tastings::tasting_json;

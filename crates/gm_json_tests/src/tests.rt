@@ -1,10 +1,11 @@
 //! Every text is compact, with the keys of each object in byte order.
 
 use gm_json::{
-    Amiss, Checked, Difference, Usage, audit_json, check_json, decode_json, done_json, error_json,
+    Checked, Difference, Usage, audit_json, check_json, decode_json, done_json, error_json,
     fault_json, list_json, metadata_json, mirror_json, refused_json, repeated_json, scrub_json,
     status_json, tasting_json,
 };
+use gm_looks::{Standing, Unlike};
 use gm_metadata::{Balance, DecodeFault, DiskFlags, Label, Metadata, MirrorFlags};
 use gm_shelf::{NoImage, PassedOver};
 use gm_state::{Component, Disk, Mirror, Reply, State, metadata};
@@ -292,9 +293,9 @@ fn components_that_were_looked_at_are_told(rt: HostRuntime) {
 fn what_a_check_found_is_told(rt: HostRuntime) {
     let (b, c) = (label(&rt, "b.img"), label(&rt, "c.img"));
     let state = new_state(&rt);
-    let amiss = [Amiss {
+    let unlike = [Unlike {
         provider: b,
-        how: "absent",
+        standing: Standing::Absent,
     }];
     let differ = [Difference {
         provider: c,
@@ -303,7 +304,7 @@ fn what_a_check_found_is_told(rt: HostRuntime) {
     }];
     let found = Checked {
         state: &state,
-        amiss: &amiss,
+        unlike: &unlike,
         differ: &differ,
         uncompared: &[b],
         pending: 2,

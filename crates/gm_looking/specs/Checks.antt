@@ -34,11 +34,15 @@ is_well f = (f.pending == 0) && ((length f.unlike.now == 0) && ((length f.flaws.
 abbrev pub in_sectors : ℕ → List ℕ
 in_sectors n = if n == 1 then codes "1 sector" else decimal n ++ codes " sectors"
 
--- how a component's data differ, or that they weren't compared
+-- how a component's data differ
+abbrev pub difference : ℕ → ℕ → List ℕ
+difference sectors first =
+    codes " differs in " ++ in_sectors sectors ++ codes ", first " ++ decimal first
+
+-- the same, or that they weren't compared
 abbrev pub flaw_words : Flaw → List ℕ
 flaw_words Uncompared = codes " isn't compared"
-flaw_words (Differs sectors first) =
-    codes " differs in " ++ in_sectors sectors ++ codes ", first " ++ decimal first
+flaw_words (Differs sectors first) = difference sectors first
 
 abbrev pub flaw_line : Scrubbed → List ℕ
 flaw_line x = line (x.provider ++ flaw_words x.flaw)
@@ -50,12 +54,17 @@ pending_lines n =
     else if n == 1 then codes "1 write is pending\n"
     else decimal n ++ codes " writes are pending\n"
 
+-- how many of something there are, of how many there may be
+abbrev pub used_words : List ℕ → ℕ → ℕ → List ℕ
+used_words what used most =
+    what ++ codes " " ++ decimal used ++ codes " of " ++ decimal most ++ codes ", "
+
 -- how much of the registry is used
 abbrev pub usage_line : Found → List ℕ
-usage_line f = line (
-    codes "commands " ++ decimal f.commands ++ codes " of 100000, mirrors "
-    ++ decimal (length f.state.now.mirrors) ++ codes " of 64, registry " ++ decimal f.bytes
-    ++ codes " bytes")
+usage_line f =
+    used_words (codes "commands") f.commands 100000
+    ++ used_words (codes "mirrors") (length f.state.now.mirrors) 64
+    ++ line (codes "registry " ++ decimal f.bytes ++ codes " bytes")
 
 -- what it comes to
 abbrev pub verdict : Bool → List ℕ

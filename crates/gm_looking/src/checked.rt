@@ -1,18 +1,19 @@
 //! What a check found, whether all is well then, and how that is told.
 
 ghost use Rattle.std.specs.Prelude.{◌≡◌, ◌++◌, IfOk, OnOk};
+ghost use Rattle.std.specs.List.{list_all};
 ghost use Rattle.std.specs.String.{string_bytes};
-ghost use Rattle.gm_looking.specs.Checks.{check_text, is_complete, is_well, pending_lines, usage_line, verdict, IsChecked};
+ghost use Rattle.gm_looking.specs.Checks.{check_text, is_complete, is_well, pending_lines, usage_line, used_words, verdict, IsChecked};
 
 use crate::flaws::{flaws_apart, flaws_text};
 use gm_command_line::Form;
 use gm_commands::MAX_COMMANDS;
-use gm_json::{Amiss, Checked, Usage, check_json};
+use gm_json::{Checked, Usage, check_json};
 use gm_looks::{Scrubbed, Unlike};
 use gm_process::Status;
 use gm_reports::{Report, as_line};
 use gm_state::{MAX_MIRRORS, Mirror, State};
-use gm_unlike::{told_standing, unlike_lines};
+use gm_unlike::unlike_lines;
 use gm_words::status_text;
 use std::alloc::{AllocError, Global};
 
@@ -44,6 +45,13 @@ fn is_complete(state: &State, mirror: &Mirror) -> bool
     active == usize::from(mirror.all)
 }
 
+// Whether that is so of each of these mirrors.
+fn are_complete(state: &State, mirrors: &[Mirror]) -> bool
+    ensures { result ≡ list_all (is_complete state.now) mirrors.now }
+{
+    mirrors.iter().all(|mirror| is_complete(state, mirror))
+}
+
 // Whether nothing is amiss.
 fn is_well(found: &Found<'_>) -> bool
     ensures { result ≡ is_well found.now }
@@ -51,11 +59,7 @@ fn is_well(found: &Found<'_>) -> bool
     found.pending == 0
         && found.unlike.is_empty()
         && found.flaws.is_empty()
-        && found
-            .state
-            .mirrors()
-            .iter()
-            .all(|m| is_complete(found.state, m))
+        && are_complete(found.state, found.state.mirrors())
 }
 
 /// Appends how many writes are pending, if any are.
@@ -70,18 +74,23 @@ pub(crate) fn push_pending(text: &mut String, pending: usize) -> Result<(), Allo
     }
 }
 
+// Appends how many of something there are, of how many there may be.
+fn push_used(text: &mut String, what: &str, used: u64, most: u64) -> Result<(), AllocError>
+    ensures { OnOk result
+        (string_bytes text.new ≡ string_bytes text.old ++ used_words what.now used most) }
+{
+    write!(text, "{what} {used} of {most}, ")
+}
+
 // Appends how much of the registry is used.
 fn push_usage(text: &mut String, found: &Found<'_>) -> Result<(), AllocError>
     ensures { OnOk result (string_bytes text.new ≡ string_bytes text.old ++ usage_line found.now) }
 {
-    let commands = found.commands;
-    let mirrors = found.state.mirrors().len();
+    let mirrors = found.state.mirrors().len() as u64;
     let bytes = found.bytes;
-    write!(text, "commands {commands} of {MAX_COMMANDS}, ")?;
-    writeln!(
-        text,
-        "mirrors {mirrors} of {MAX_MIRRORS}, registry {bytes} bytes"
-    )
+    push_used(text, "commands", found.commands, u64::from(MAX_COMMANDS))?;
+    push_used(text, "mirrors", mirrors, MAX_MIRRORS as u64)?;
+    writeln!(text, "registry {bytes} bytes")
 }
 
 // What it comes to.
@@ -108,21 +117,8 @@ fn check_text(alloc: Global, found: &Found<'_>) -> Result<String, AllocError>
     Ok(text)
 }
 
-// The images that aren't as they are registered, to be told as JSON.
-fn amiss_of(alloc: Global, list: &[Unlike]) -> Result<Vec<Amiss>, AllocError> {
-    let mut amiss: Vec<Amiss> = Vec::new(alloc);
-    for unlike in list {
-        amiss.push(Amiss {
-            provider: unlike.provider,
-            how: told_standing(unlike.standing),
-        })?;
-    }
-    Ok(amiss)
-}
-
 // What was found, as JSON.
 fn found_json(alloc: Global, found: &Found<'_>) -> Result<String, AllocError> {
-    let amiss = amiss_of(alloc, found.unlike)?;
     let flaws = flaws_apart(alloc, found.flaws)?;
     let registry = Usage {
         bytes: found.bytes,
@@ -133,7 +129,7 @@ fn found_json(alloc: Global, found: &Found<'_>) -> Result<String, AllocError> {
     };
     let checked = Checked {
         state: found.state,
-        amiss: &amiss,
+        unlike: found.unlike,
         differ: &flaws.differ,
         uncompared: &flaws.uncompared,
         pending: found.pending as u64,

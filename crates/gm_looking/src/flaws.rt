@@ -2,27 +2,50 @@
 
 ghost use Rattle.std.specs.Prelude.{◌≡◌, ◌++◌, IfOk, OnOk, flat_map};
 ghost use Rattle.std.specs.String.{string_bytes};
-ghost use Rattle.gm_looking.specs.Checks.{flaw_line};
+ghost use Rattle.gm_looking.specs.Checks.{difference, flaw_line, flaw_words, in_sectors};
 
 use gm_json::Difference;
 use gm_looks::{Flaw, Scrubbed};
 use gm_metadata::Label;
 use std::alloc::{AllocError, Global};
 
+// Appends how many sectors.
+fn push_sectors(text: &mut String, sectors: u64) -> Result<(), AllocError>
+    ensures { OnOk result (string_bytes text.new ≡ string_bytes text.old ++ in_sectors sectors) }
+{
+    match sectors {
+        1 => text.push_str("1 sector"),
+        sectors => write!(text, "{sectors} sectors"),
+    }
+}
+
+// Appends in how many sectors data differ, and in which first.
+fn push_difference(text: &mut String, sectors: u64, first: u64) -> Result<(), AllocError>
+    ensures { OnOk result
+        (string_bytes text.new ≡ string_bytes text.old ++ difference sectors first) }
+{
+    text.push_str(" differs in ")?;
+    push_sectors(text, sectors)?;
+    write!(text, ", first {first}")
+}
+
+// Appends what is amiss of data.
+fn push_flaw(text: &mut String, flaw: Flaw) -> Result<(), AllocError>
+    ensures { OnOk result (string_bytes text.new ≡ string_bytes text.old ++ flaw_words flaw) }
+{
+    match flaw {
+        Flaw::Uncompared => text.push_str(" isn't compared"),
+        Flaw::Differs { sectors, first } => push_difference(text, sectors, first),
+    }
+}
+
 // Appends the line of a component.
-fn push_flaw(text: &mut String, found: &Scrubbed) -> Result<(), AllocError>
+fn push_line(text: &mut String, found: &Scrubbed) -> Result<(), AllocError>
     ensures { OnOk result (string_bytes text.new ≡ string_bytes text.old ++ flaw_line found.now) }
 {
-    let name = found.provider;
-    match found.flaw {
-        Flaw::Uncompared => writeln!(text, "{name} isn't compared"),
-        Flaw::Differs { sectors: 1, first } => {
-            writeln!(text, "{name} differs in 1 sector, first {first}")
-        }
-        Flaw::Differs { sectors, first } => {
-            writeln!(text, "{name} differs in {sectors} sectors, first {first}")
-        }
-    }
+    text.push_str(found.provider.as_str())?;
+    push_flaw(text, found.flaw)?;
+    text.push('\n')
 }
 
 /// A line for each component.
@@ -31,7 +54,7 @@ pub(crate) fn flaws_text(alloc: Global, list: &[Scrubbed]) -> Result<String, All
 {
     let mut text = String::new(alloc);
     for found in list {
-        push_flaw(&mut text, found)?;
+        push_line(&mut text, found)?;
     }
     Ok(text)
 }
