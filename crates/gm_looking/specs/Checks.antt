@@ -31,7 +31,7 @@ is_well f = (f.pending == 0) && ((length f.unlike.now == 0) && ((length f.flaws.
     && list_all (is_complete f.state.now) f.state.now.mirrors))
 
 -- in so many sectors
-abbrev pub in_sectors : ℕ → List ℕ
+unfoldable pub in_sectors : ℕ → List ℕ
 in_sectors n = if n == 1 then codes "1 sector" else decimal n ++ codes " sectors"
 
 -- how a component's data differ

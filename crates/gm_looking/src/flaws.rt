@@ -10,6 +10,7 @@ use gm_metadata::Label;
 use std::alloc::{AllocError, Global};
 
 // Appends how many sectors.
+#[tactic(auto, unfolding(crate::specs::Checks::in_sectors))]
 fn push_sectors(text: &mut String, sectors: u64) -> Result<(), AllocError>
     ensures { OnOk result (string_bytes text.new ≡ string_bytes text.old ++ in_sectors sectors) }
 {
