@@ -30,14 +30,19 @@ abbrev pub is_well : Found → Bool
 is_well f = (f.pending == 0) && ((length f.unlike.now == 0) && ((length f.flaws.now == 0)
     && list_all (is_complete f.state.now) f.state.now.mirrors))
 
--- in so many sectors
-unfoldable pub in_sectors : ℕ → List ℕ
-in_sectors n = if n == 1 then codes "1 sector" else decimal n ++ codes " sectors"
+-- data differ in so many sectors
+unfoldable pub differs_in : ℕ → List ℕ
+differs_in n =
+    if n == 1 then codes " differs in 1 sector"
+    else codes " differs in " ++ decimal n ++ codes " sectors"
+
+-- that is the first of them
+abbrev pub first_words : ℕ → List ℕ
+first_words first = codes ", first " ++ decimal first
 
 -- how a component's data differ
 abbrev pub difference : ℕ → ℕ → List ℕ
-difference sectors first =
-    codes " differs in " ++ in_sectors sectors ++ codes ", first " ++ decimal first
+difference sectors first = differs_in sectors ++ first_words first
 
 -- the same, or that they weren't compared
 abbrev pub flaw_words : Flaw → List ℕ

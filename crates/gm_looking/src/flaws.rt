@@ -2,32 +2,38 @@
 
 ghost use Rattle.std.specs.Prelude.{◌≡◌, ◌++◌, IfOk, OnOk, flat_map};
 ghost use Rattle.std.specs.String.{string_bytes};
-ghost use Rattle.gm_looking.specs.Checks.{difference, flaw_line, flaw_words, in_sectors};
+ghost use Rattle.gm_looking.specs.Checks.{difference, differs_in, first_words, flaw_line, flaw_words};
 
 use gm_json::Difference;
 use gm_looks::{Flaw, Scrubbed};
 use gm_metadata::Label;
 use std::alloc::{AllocError, Global};
 
-// Appends how many sectors.
-#[tactic(auto, unfolding(crate::specs::Checks::in_sectors))]
-fn push_sectors(text: &mut String, sectors: u64) -> Result<(), AllocError>
-    ensures { OnOk result (string_bytes text.new ≡ string_bytes text.old ++ in_sectors sectors) }
+// Appends in how many sectors data differ.
+#[tactic(auto, unfolding(crate::specs::Checks::differs_in))]
+fn push_differing(text: &mut String, sectors: u64) -> Result<(), AllocError>
+    ensures { OnOk result (string_bytes text.new ≡ string_bytes text.old ++ differs_in sectors) }
 {
     match sectors {
-        1 => text.push_str("1 sector"),
-        sectors => write!(text, "{sectors} sectors"),
+        1 => text.push_str(" differs in 1 sector"),
+        sectors => write!(text, " differs in {sectors} sectors"),
     }
 }
 
-// Appends in how many sectors data differ, and in which first.
+// Appends which of them is the first.
+fn push_first(text: &mut String, first: u64) -> Result<(), AllocError>
+    ensures { OnOk result (string_bytes text.new ≡ string_bytes text.old ++ first_words first) }
+{
+    write!(text, ", first {first}")
+}
+
+// Appends in how many sectors data differ, and which of them is the first.
 fn push_difference(text: &mut String, sectors: u64, first: u64) -> Result<(), AllocError>
     ensures { OnOk result
         (string_bytes text.new ≡ string_bytes text.old ++ difference sectors first) }
 {
-    text.push_str(" differs in ")?;
-    push_sectors(text, sectors)?;
-    write!(text, ", first {first}")
+    push_differing(text, sectors)?;
+    push_first(text, first)
 }
 
 // Appends what is amiss of data.
