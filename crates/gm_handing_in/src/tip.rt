@@ -33,11 +33,8 @@ fn misplaced(words: &[&str]) -> Option<&'static str> {
     None
 }
 
-/// Tells whoever wrote no command, but an option of `do` after the key, or no key, where it belongs.
-pub(crate) fn say_tip<E: Write>(complaints: &mut E, words: &[&str], outcome: &Outcome<'_>) {
-    let Outcome::Wrong(key) = *outcome else {
-        return;
-    };
+// What is in a wrong place of words under this key that are no command.
+fn say_place<E: Write>(complaints: &mut E, words: &[&str], key: &str) {
     if let Some(option) = misplaced(words) {
         let _ = writeln!(
             complaints,
@@ -48,5 +45,12 @@ pub(crate) fn say_tip<E: Write>(complaints: &mut E, words: &[&str], outcome: &Ou
             complaints,
             "tip: a key comes before the command: gmbench do KEY {key} .."
         );
+    }
+}
+
+/// Tells whoever wrote no command, but an option of `do` after the key, or no key, where it belongs.
+pub(crate) fn say_tip<E: Write>(complaints: &mut E, words: &[&str], outcome: &Outcome<'_>) {
+    if let Outcome::Wrong(key) = *outcome {
+        say_place(complaints, words, key);
     }
 }
