@@ -3,28 +3,16 @@
 use crate::place::{Terms, work_at};
 use clap::Error;
 use clap::error::ErrorKind;
-use gm_command_line::{Asked, COMMANDS, Job, Work, asked_of};
+use gm_command_line::{Asked, Job, Work, asked_of};
 use gm_dump::dump;
 use gm_faults::{Fault, explain_fault};
 use gm_looking::{check_place, look_at, show_pending, show_pending_at, taste_folder};
 use gm_process::{Environment, Patience, Place, Status, Streams};
-use std::io::{self, BufRead, Write};
+use std::io::{BufRead, Write};
 
-// Whoever forgot `do` and the key is told where a command belongs.
-fn say_tip<E: Write>(complaints: &mut E, words: &[&str]) -> io::Result<()> {
-    match words.first() {
-        Some(word) if COMMANDS.iter().any(|name| *name == *word) => writeln!(
-            complaints,
-            "tip: {word} comes after do and a key: gmbench do KEY {word} .."
-        ),
-        _ => Ok(()),
-    }
-}
-
-// Prints what clap has to say of the words, on the stream where it belongs.
+// Prints what clap has to say, on the stream where it belongs.
 fn print_error<O: Write, E: Write>(
     error: &Error,
-    words: &[&str],
     output: &mut O,
     complaints: &mut E,
 ) -> Result<Status, Fault> {
@@ -33,7 +21,6 @@ fn print_error<O: Write, E: Write>(
     }
     if error.use_stderr() {
         write!(complaints, "{error}")?;
-        say_tip(complaints, words)?;
         return Ok(Status::Words);
     }
     write!(output, "{error}")?;
@@ -103,7 +90,7 @@ fn run<I: BufRead, O: Write, E: Write>(
     let environment = Environment::find(rt)?;
     let done = match asked_of(rt.alloc(), words, environment.settings()) {
         Ok(asked) => perform(rt, &asked, streams),
-        Err(error) => print_error(&error, words, streams.output, streams.complaints),
+        Err(error) => print_error(&error, streams.output, streams.complaints),
     };
     // What was printed before a fault is to be seen as well.
     let flushed = streams.output.flush();

@@ -1,4 +1,4 @@
-# What is said of words in a wrong place: a forgotten `do`, a forgotten key, an option after the key.
+# What is said of words in a wrong place after `do`: a forgotten key, an option after the key.
 . "$helpers/help.sh"
 . "$helpers/bench.sh"
 
@@ -17,15 +17,11 @@ keep_bench
 command_lines >"$work/commands"
 [ "$(grep -c . "$work/commands")" = 14 ] && pass 'the help has the commands' || fail 'the help has the commands' "$(cat "$work/commands")"
 while read -r word behind; do
-    run "$word" gm0 a.img
-    expect_tip "$word without do" 2 "$word comes after do and a key: gmbench do KEY $word .."
     at_bench do "$word" gm0 a.img
     expect_tip "$word without a key" 1 "a key comes before the command: gmbench do KEY $word .."
 done <"$work/commands"
-run paint gm0 a.img
-expect_no_tip 'a word of no command' 2
 at_bench do k1 paint gm0
-expect_no_tip 'the same after do' 1
+expect_no_tip 'a word of no command' 1
 for option in --registry --shelf --existing --explain --wait --unchecked --force; do
     at_bench do k1 label --mid 7 --did 1 "$option" gm0 a.img
     expect_tip "$option after the key" 1 "$option comes before the key: gmbench do $option .. k1 .."
