@@ -32,11 +32,12 @@ $(ending 2 1 "$amiss")" ''
 expect_kept 'it filled nothing'
 at_bench sync --quiet
 keep_bench
+cp "$registry-wal" "$work/kept-log"
 at_bench check
 expect 'one that is filled' 0 "$of_filled
 $(ending 4 1 "$well")" ''
 expect_kept 'it wrote nothing'
-expect_none 'nor a log' "$registry-wal"
+expect_same 'nor to the log' "$registry-wal" "$work/kept-log"
 at_bench check --data --quiet
 expect 'with equal data' 0 "$of_filled
 $(ending 4 1 "$well")" ''
@@ -72,7 +73,7 @@ $(ending 4 1 "$amiss")" ''
 at_bench check --data --quiet --json
 expect 'the same as JSON' 1 '{"amiss":[{"how":"absent","name":"b.img"}],"differ":[],'"$mirrors"',"pending":0,'"$of_registry"',"uncompared":["b.img"],"well":false}' ''
 put_back
-damage "$bench/images/a.img" 131590 z
+damage "$bench/images/a.img" 131684 z
 at_bench check
 expect 'metadata that are damaged' 1 "$of_filled
 a.img damaged
