@@ -35,7 +35,8 @@ pub named : (name bytes : List ℕ) (headers : List HeaderSpan) (i : ℕ) (d : H
     → (done ++ (header_bytes bytes (get_or headers i d)).1 ∷ []) ++ from name bytes headers (i + 1)
     ≡ all
 named name bytes headers i d done all low is so =
-    append_assoc done _ _ ∙ (ap (λ t. done ++ t) (sym (next name bytes headers i d true low is)) ∙ so)
+    append_assoc done _ _
+    ∙ (ap (λ t. done ++ t) (sym (next name bytes headers i d true low is)) ∙ so)
 
 pub passed : (name bytes : List ℕ) (headers : List HeaderSpan) (i : ℕ) (d : HeaderSpan)
     (done all : List (List ℕ)) → i < length headers

@@ -5,9 +5,9 @@
 //! Each text is compact, with the keys of every object in byte order, and is the text that the
 //! library `serde_json` gives to a value. `specs/` says which value, key by key, as it is read:
 //! `Mirrors` of `mirrors.rt`, `Sectors` of `sectors.rt`, `Answers` of `answers.rt`, `Audits` of
-//! `audits.rt`, `Checks` of `checks.rt`, `Tastings` of `tastings.rt`, by the words of `Fields`. Nothing here knows of a
-//! registry, a bench or a request, and of a shelf only what an entry is that it passes over, and how
-//! an image stands.
+//! `audits.rt`, `Checks` of `checks.rt`, `Tastings` of `tastings.rt`, by the words of `Fields`.
+//! Nothing here knows of a registry, a bench or a request, and of a shelf only what an entry is that
+//! it passes over, and how an image stands.
 #![tactic(auto)]
 
 mod answers;

@@ -4,12 +4,11 @@ ghost use Rattle.std.specs.Prelude.{◌≡◌, IfOk, map, option_map};
 ghost use Rattle.std.specs.String.{string_bytes};
 ghost use Rattle.serde_json.specs.View.{items_of, items_view, view};
 ghost use Rattle.gm_state.specs.Records.{members};
-ghost use Rattle.gm_state.specs.States.{mirror_state_name, state_among};
 ghost use Rattle.gm_json.specs.Mirrors.{component_data, list_data, list_json, mirror_data, mirror_json, standing_component, standing_mirror, state_of, status_data, status_json};
 
 use crate::text::{put_text, text_of};
 use gm_metadata::Label;
-use gm_state::{Component, Mirror, MirrorState, State, bytes_of, state_by};
+use gm_state::{Component, Mirror, State, bytes_of, state_among, state_by};
 use serde_json::{Map, Value, json, put};
 use std::alloc::{AllocError, Global};
 
@@ -18,19 +17,6 @@ fn state_of(m: &Mirror, k: &Component) -> &'static str
     ensures { result.now ≡ state_of m.now k.now }
 {
     state_by(m.flags, k.disk).name()
-}
-
-// The name of the state of a mirror that has these components.
-fn mirror_state(m: &Mirror, members: &[Component]) -> &'static str
-    ensures { result.now ≡ mirror_state_name (state_among m.now members.now) }
-{
-    let active = members.iter().filter(|k| k.disk.is_active()).count();
-    let state = if active == usize::from(m.all) {
-        MirrorState::Complete
-    } else {
-        MirrorState::Degraded
-    };
-    state.name()
 }
 
 // A component in the status.
@@ -66,7 +52,7 @@ fn standing_mirror(alloc: Global, m: &Mirror, members: &[Component]) -> Result<V
     let mut map = Map::new(alloc);
     put(&mut map, alloc, "components", Value::Array(components))?;
     put_text(&mut map, alloc, "name", m.name.as_str())?;
-    put_text(&mut map, alloc, "state", mirror_state(m, members))?;
+    put_text(&mut map, alloc, "state", state_among(m, members).name())?;
     Ok(Value::Object(map))
 }
 
@@ -161,7 +147,7 @@ fn mirror_value(alloc: Global, m: &Mirror, members: &[Component]) -> Result<Valu
     put(&mut map, alloc, "mid", Value::from(m.mid))?;
     put_text(&mut map, alloc, "name", m.name.as_str())?;
     put(&mut map, alloc, "slice", Value::from(m.slice))?;
-    put_text(&mut map, alloc, "state", mirror_state(m, members))?;
+    put_text(&mut map, alloc, "state", state_among(m, members).name())?;
     put(&mut map, alloc, "syncid", Value::from(m.syncid))?;
     Ok(Value::Object(map))
 }

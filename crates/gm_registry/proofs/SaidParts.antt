@@ -42,7 +42,8 @@ some_carried g a b P (inr first) clean now = carried (state g a) (state g b) P f
 
 -- the records of a state that they make
 pub said_in_order : (db : Trees) (c : Command) (mids : List ℕ) (ms : List Mirror)
-    (ks : List Component) (count : ℕ) (s : Records) → AreSaidFor db c mids ms ks count → IsStateOf ms ks s
+    (ks : List Component) (count : ℕ) (s : Records) → AreSaidFor db c mids ms ks count
+    → IsStateOf ms ks s
     → AreSaidFor db c mids s.mirrors s.components count
 said_in_order db c mids ms ks count s says of = record {
   mirrors = says.mirrors;

@@ -1,4 +1,5 @@
 pub mod CopyFound
+pub mod Counted
 pub mod EncodedSectors
 pub mod Examples
 pub mod FoundSource

@@ -28,9 +28,13 @@ component_state s provider = at_component s provider (λ m k. state_by m.flags k
 abbrev pub active_count : List Component → ℕ
 active_count ks = count_by (λ k. is_active k.disk) ks
 
--- COMPLETE if as many are ACTIVE as the mirror has in all, else DEGRADED
+-- COMPLETE if as many are ACTIVE as there are in all, else DEGRADED
+abbrev pub state_of_active : ℕ → ℕ → MirrorState
+state_of_active active all = if active == all then Complete else Degraded
+
+-- the state of a mirror that has these components
 abbrev pub state_among : Mirror → List Component → MirrorState
-state_among m ks = if active_count ks == m.all then Complete else Degraded
+state_among m ks = state_of_active (active_count ks) m.all
 
 -- the names of the states in texts
 abbrev pub component_state_name : ComponentState → List ℕ

@@ -32,4 +32,6 @@ pub use records::{Component, Disk, Mirror};
 pub use rules::{MAX_COMPONENTS, MAX_MIRRORS, MAX_SECTORS};
 pub use sizes::{bytes_of, sectors_of};
 pub use state::{State, put};
-pub use states::{ComponentState, MirrorState, component_state, state_by};
+pub use states::{
+    ComponentState, MirrorState, active_count, component_state, mirror_state, state_among, state_by,
+};

@@ -1,9 +1,12 @@
 //! The named states of components and mirrors, as `gmirror status` shows them.
 
-ghost use Rattle.std.specs.Prelude.{◌≡◌};
-ghost use Rattle.gm_state.specs.States.{component_state, component_state_name, mirror_state_name, state_by};
+ghost use Rattle.std.specs.Prelude.{◌≡◌, ◌&&◌, count_by};
+ghost use Rattle.gm_metadata.specs.Images.{same_label};
+ghost use Rattle.gm_state.specs.Lookups.{is_active};
+ghost use Rattle.gm_state.specs.Records.{members};
+ghost use Rattle.gm_state.specs.States.{active_count, component_state, component_state_name, mirror_state_name, state_among, state_by, state_of_active};
 
-use crate::records::Disk;
+use crate::records::{Component, Disk, Mirror};
 use crate::state::State;
 use gm_metadata::{Label, MirrorFlags};
 
@@ -43,6 +46,17 @@ impl ComponentState {
 }
 
 impl MirrorState {
+    /// The state of a mirror of which so many components are ACTIVE.
+    pub fn of_active(active: usize, all: u8) -> MirrorState
+        ensures { result ≡ state_of_active active all }
+    {
+        if active == usize::from(all) {
+            MirrorState::Complete
+        } else {
+            MirrorState::Degraded
+        }
+    }
+
     /// Its name in texts.
     pub fn name(self) -> &'static str
         ensures { result.now ≡ mirror_state_name self }
@@ -52,6 +66,38 @@ impl MirrorState {
             MirrorState::Degraded => "DEGRADED",
         }
     }
+}
+
+/// How many of these components are ACTIVE.
+pub fn active_count(members: &[Component]) -> usize
+    ensures { result ≡ active_count members.now }
+{
+    members.iter().filter(|k| k.disk.is_active()).count()
+}
+
+/// The state of a mirror that has these components.
+pub fn state_among(mirror: &Mirror, members: &[Component]) -> MirrorState
+    ensures { result ≡ state_among mirror.now members.now }
+{
+    MirrorState::of_active(active_count(members), mirror.all)
+}
+
+// How many of these components are ACTIVE and of the mirror of this name.
+fn active_of(components: &[Component], name: Label) -> usize
+    ensures { result ≡ count_by (λ k. same_label k.mirror name && is_active k.disk) components.now }
+{
+    components
+        .iter()
+        .filter(|k| k.mirror == name && k.disk.is_active())
+        .count()
+}
+
+/// The state of a mirror with the components that it has in the state.
+#[tactic(auto, using(crate::proofs::Counted::count_among))]
+pub fn mirror_state(state: &State, mirror: &Mirror) -> MirrorState
+    ensures { result ≡ state_among mirror.now (members state.now.components mirror.now.name) }
+{
+    MirrorState::of_active(active_of(state.components(), mirror.name), mirror.all)
 }
 
 /// The state of a component that is so, of a mirror with these flags.

@@ -5,8 +5,7 @@ ghost use Rattle.std.specs.String.{string_bytes};
 ghost use Rattle.gm_words.specs.Listing.{block, component_lines, list_text, mirror_lines, setting_lines, standing_lines, yes_where};
 
 use crate::lines::{disk_flags_text, mirror_flags_text, push_field, push_number};
-use crate::status::{active_in, state_name_with};
-use gm_state::{Component, Mirror, State, bytes_of, state_by};
+use gm_state::{Component, Mirror, State, bytes_of, state_among, state_by};
 use std::alloc::{AllocError, Global};
 
 fn yes_where(holds: bool) -> &'static str
@@ -19,7 +18,7 @@ fn yes_where(holds: bool) -> &'static str
 fn standing_lines(alloc: Global, m: &Mirror, members: &[Component]) -> Result<String, AllocError>
     ensures { IfOk result (λ text. string_bytes text ≡ standing_lines m.now members.now) }
 {
-    let state_name = state_name_with(active_in(members), m.all);
+    let state_name = state_among(m, members).name();
     let mut text = String::new(alloc);
     push_field(&mut text, "Mirror", m.name.as_str())?;
     push_field(&mut text, "State", state_name)?;

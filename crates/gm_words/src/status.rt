@@ -1,14 +1,13 @@
 //! The text of a status: how the mirrors stand, a line each, and below it a line for each
 //! component.
 
-ghost use Rattle.std.specs.Prelude.{◌≡◌, ◌++◌, ◌==◌, IfOk, OnOk, if◌then◌else◌};
+ghost use Rattle.std.specs.Prelude.{◌≡◌, ◌++◌, IfOk, OnOk};
 ghost use Rattle.std.specs.String.{string_bytes};
-ghost use Rattle.gm_state.specs.States.{active_count, mirror_state_name, state_by};
-ghost use Rattle.gm_state.specs.declared.states.MirrorState.TheVariants.{Complete, Degraded};
+ghost use Rattle.gm_state.specs.States.{state_by};
 ghost use Rattle.gm_words.specs.Status.{block, component_line, mirror_line, progress, status_text};
 
 use crate::lines::push_left_in_15;
-use gm_state::{Component, ComponentState, Mirror, MirrorState, State, state_by};
+use gm_state::{Component, ComponentState, Mirror, MirrorState, State, active_count, state_by};
 use std::alloc::{AllocError, Global};
 
 // Appends how far a component is that is to be filled.
@@ -45,25 +44,6 @@ fn push_component_line(
     text.push('\n')
 }
 
-/// How many of them are ACTIVE.
-pub(crate) fn active_in(members: &[Component]) -> usize
-    ensures { result ≡ active_count members.now }
-{
-    members.iter().filter(|k| k.disk.is_active()).count()
-}
-
-/// The name of the state of a mirror with so many components that are ACTIVE.
-pub(crate) fn state_name_with(active: usize, all: u8) -> &'static str
-    ensures { result.now ≡ mirror_state_name (if active == all then Complete else Degraded) }
-{
-    let state = if active == usize::from(all) {
-        MirrorState::Complete
-    } else {
-        MirrorState::Degraded
-    };
-    state.name()
-}
-
 // Appends the line of a mirror that has these components.
 fn push_mirror_line(
     text: &mut String,
@@ -74,8 +54,8 @@ fn push_mirror_line(
         ≡ string_bytes text.old ++ mirror_line mirror.now members.now) }
 {
     let all = mirror.all;
-    let active = active_in(members);
-    let state_name = state_name_with(active, all);
+    let active = active_count(members);
+    let state_name = MirrorState::of_active(active, all).name();
     push_left_in_15(text, mirror.name)?;
     writeln!(text, " {state_name} {active}/{all}")
 }

@@ -7,7 +7,8 @@ use Rattle.gm_json.proofs.mirrors.component_values.Goals as goal
 pub loop-component-preserved : goal.loop-component-preserved
 loop-component-preserved c =
     ap (map view) c.in_ok-push.ensures.items
-    ∙ one_more (component_data c.args.m.now) view c.args.members.now c.loop-component.component-index
+    ∙ one_more (component_data c.args.m.now) view c.args.members.now
+    c.loop-component.component-index
     c.component-item.result c.loop-component.values.items c.in_ok-component_value.field-0
     c.loop-component-test.true c.component-item.is c.loop-component.invariant
     c.in_ok-component_value.ensures

@@ -245,8 +245,9 @@ returns-in-Second g c =
                 let ours = of_registry s opened is_open has in
                 fails is (ours_known _ ours) (λ _. ours) is_open
             | inr (inr foreign) ↦ fails is (foreign_shown s opened is_open foreign)
-                (λ lists. absurd (foreign.other Second (subst (λ (d : Database). Lists Second d.trees)
-                (opened.settled is_open) lists))) is_open
+                (λ lists. absurd (foreign.other Second
+                (subst (λ (d : Database). Lists Second d.trees) (opened.settled is_open) lists)))
+                is_open
           ]) (it.store clean);
         };
       };

@@ -226,7 +226,8 @@ returns-in_err-named-clause-silent g c clean =
     passed_on c.from_residual-in_err-named.result _ _ (λ e same is known p said values.
     carried old one (λ (trees : Trees). SayNone component_shown IsComponentValue
     (flat_map (shown_under trees Provider) c.providers_of.result.now))
-    c.in_ok-all.ensures.read early (c.in_err-named.ensures.silent clean (sym same ∙ is)) known said.1.named values.named
+    c.in_ok-all.ensures.read early (c.in_err-named.ensures.silent clean (sym same ∙ is)) known
+    said.1.named values.named
     (subst (λ ps. IsPermutation (flat_map (shown_under old.now.trees Provider) ps)
     (map component_shown said.1.named)) (sym c.providers_of.ensures) said.1.named_are))
     c.from_residual-in_err-named.ensures.1

@@ -61,7 +61,8 @@ returns-in-Ok-NotLost-clause-leaves g c h is_open closed =
 pub returns-in-Err-take_up_without-clause-leaves : goal.returns-in-Err-take_up_without-clause-leaves
 returns-in-Err-take_up_without-clause-leaves g c h is_open closed =
     let clean : DiskKept g.S.Store c.take_up_without.new.self.registry =
-    subst (λ (k : Held g.row.S.Denot). DiskKept g.S.Store k) c.close-in-Err-take_up_without.ensures closed in
+    subst (λ (k : Held g.row.S.Denot). DiskKept g.S.Store k)
+    c.close-in-Err-take_up_without.ensures closed in
     let mid : DiskKept g.S.Store c.in-Ok.registry =
     omega (arith, clean, c.take_up_without.ensures.keep.clean) in
     let it = c.in-Ok.ensures.opens is_open in
@@ -81,7 +82,8 @@ pub returns-in-Err-take_up_without-clause-foreign :
     goal.returns-in-Err-take_up_without-clause-foreign
 returns-in-Err-take_up_without-clause-foreign g c is_open foreign closed =
     let clean : DiskKept g.S.Store c.take_up_without.new.self.registry =
-    subst (λ (k : Held g.row.S.Denot). DiskKept g.S.Store k) c.close-in-Err-take_up_without.ensures closed in
+    subst (λ (k : Held g.row.S.Denot). DiskKept g.S.Store k)
+    c.close-in-Err-take_up_without.ensures closed in
     let mid : DiskKept g.S.Store c.in-Ok.registry =
     omega (arith, clean, c.take_up_without.ensures.keep.clean) in
     let it = c.in-Ok.ensures.opens is_open in
@@ -212,7 +214,8 @@ returns-in-Err-take_up_without-clause-unopened g c =
     record {
       lacks = λ h is_open closed q is. (
           let clean : DiskKept g.S.Store c.take_up_without.new.self.registry =
-          subst (λ (k : Held g.row.S.Denot). DiskKept g.S.Store k) c.close-in-Err-take_up_without.ensures closed in
+          subst (λ (k : Held g.row.S.Denot). DiskKept g.S.Store k)
+          c.close-in-Err-take_up_without.ensures closed in
           let mid : DiskKept g.S.Store c.in-Ok.registry =
           omega (arith, clean, c.take_up_without.ensures.keep.clean) in
           let it = c.in-Ok.ensures.opens is_open in
@@ -238,14 +241,16 @@ returns-in-Err-take_up_without-clause-unopened g c =
           (λ clean t has. c.in-Err-take_up_without.ensures.before.registry clean before t has));
       disk = λ is_open closed is t stands. (
           let clean : DiskKept g.S.Store c.take_up_without.new.self.registry =
-          subst (λ (k : Held g.row.S.Denot). DiskKept g.S.Store k) c.close-in-Err-take_up_without.ensures closed in
+          subst (λ (k : Held g.row.S.Denot). DiskKept g.S.Store k)
+          c.close-in-Err-take_up_without.ensures closed in
           let mid : DiskKept g.S.Store c.in-Ok.registry =
           omega (arith, clean, c.take_up_without.ensures.keep.clean) in
           let it = c.in-Ok.ensures.opens is_open in
           c.in-Err-take_up_without.ensures.tells.disk clean t (it.opened mid t stands) (ap Err is));
       unreadable = λ is_open closed is openable t s ts bytes stands of written. (
           let clean : DiskKept g.S.Store c.take_up_without.new.self.registry =
-          subst (λ (k : Held g.row.S.Denot). DiskKept g.S.Store k) c.close-in-Err-take_up_without.ensures closed in
+          subst (λ (k : Held g.row.S.Denot). DiskKept g.S.Store k)
+          c.close-in-Err-take_up_without.ensures closed in
           let mid : DiskKept g.S.Store c.in-Ok.registry =
           omega (arith, clean, c.take_up_without.ensures.keep.clean) in
           let it = c.in-Ok.ensures.opens is_open in
@@ -253,7 +258,8 @@ returns-in-Err-take_up_without-clause-unopened g c =
           (it.opened mid t stands) of written);
       failed = λ is_open closed is known. (
           let clean : DiskKept g.S.Store c.take_up_without.new.self.registry =
-          subst (λ (k : Held g.row.S.Denot). DiskKept g.S.Store k) c.close-in-Err-take_up_without.ensures closed in
+          subst (λ (k : Held g.row.S.Denot). DiskKept g.S.Store k)
+          c.close-in-Err-take_up_without.ensures closed in
           let mid : DiskKept g.S.Store c.in-Ok.registry =
           omega (arith, clean, c.take_up_without.ensures.keep.clean) in
           let it = c.in-Ok.ensures.opens is_open in
