@@ -10,9 +10,9 @@ use Rattle.gm_taste.specs.declared.tasted.Member.{Member}
 use Rattle.gm_taste.specs.declared.tasted.Group.{Group}
 use Rattle.gm_taste.specs.declared.tasted.Tasted.{Tasted}
 use Rattle.gm_shelf.specs.declared.passed_over.PassedOver.{PassedOver}
-use Rattle.gm_json.specs.declared.audits.Difference.{Difference}
-use Rattle.gm_json.specs.Audits.{audit_data, difference_data, scrub_data}
-use Rattle.gm_json.specs.declared.checks.Checked.{Checked}
+use Rattle.gm_looks.specs.declared.scrub.Scrubbed.{Scrubbed}
+use Rattle.gm_json.specs.Audits.{audit_data, difference_data, differing, scrub_data, uncompared}
+use Rattle.gm_unlike.specs.declared.checkup.Checkup.{Checkup}
 use Rattle.gm_json.specs.Checks.{check_data, unlike_data}
 use Rattle.gm_json.specs.Mirrors.{component_data, list_data, mirror_data, standing_component, standing_mirror, status_data}
 use Rattle.gm_json.specs.Tastings.{filled_to, left_data, passed_data, tasted_component, tasted_mirror, tasted_with, tasting_data}
@@ -43,19 +43,18 @@ list_none s =
 pub audit_none : (names : List (List ℕ)) → has_float (audit_data names) ≡ false
 audit_none names = rw (none_of_each string names (λ name. refl))
 
-pub scrub_none : (differ : List Difference) (uncompared : List (List ℕ))
-    → has_float (scrub_data differ uncompared) ≡ false
-scrub_none differ uncompared =
-    rw (none_of_each difference_data differ (λ d. refl))
-    (rw (none_of_each string uncompared (λ name. refl)))
+pub scrub_none : (flaws : List Scrubbed) → has_float (scrub_data flaws) ≡ false
+scrub_none flaws =
+    rw (none_of_each difference_data (differing flaws) (λ d. refl))
+    (rw (none_of_each string (uncompared flaws) (λ name. refl)))
 
-pub check_none : (c : Checked) → has_float (check_data c) ≡ false
+pub check_none : (c : Checkup) → has_float (check_data c) ≡ false
 check_none c =
-    rw (none_of_each unlike_data c.unlike.now (λ x. refl))
-    (rw (none_of_each difference_data c.differ.now (λ d. refl))
+    rw (none_of_each unlike_data c.amiss.now.unlike.items (λ x. refl))
+    (rw (none_of_each difference_data (differing c.amiss.now.flaws.items) (λ d. refl))
     (rw (none_of_each (λ m. standing_mirror m (members c.state.now.components m.name))
     c.state.now.mirrors (λ m. standing_mirror_none m (members c.state.now.components m.name)))
-    (rw (none_of_each string c.uncompared.now (λ name. refl)))))
+    (rw (none_of_each string (uncompared c.amiss.now.flaws.items) (λ name. refl)))))
 
 tasted_with_none : (filled : Option ℕ) (x : Member) → has_float (tasted_with filled x) ≡ false
 tasted_with_none None x = refl

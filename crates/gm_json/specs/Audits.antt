@@ -1,6 +1,10 @@
 -- What is told of components that were looked at.
-use Rattle.std.specs.Prelude.{ℕ, List, [], ◌∷◌, codes}
+use Rattle.std.specs.Prelude.{◌≡◌, ◌++◌, ℕ, List, [], ◌∷◌, codes, flat_map}
 use Rattle.serde_json.specs.Data.{Data}
+use Rattle.gm_looks.specs.declared.scrub.Flaw.{Flaw}
+use Rattle.gm_looks.specs.declared.scrub.Flaw.TheVariants.{Uncompared, Differs}
+use Rattle.gm_looks.specs.declared.scrub.Scrubbed.{Scrubbed}
+use Rattle.gm_json.specs.declared.audits.Apart.{Apart}
 use Rattle.gm_json.specs.declared.audits.Difference.{Difference}
 use Rattle.gm_json.specs.Fields.{each_at, number_at, object_of, text_at, text_of, texts_at}
 
@@ -16,16 +20,44 @@ difference_data d = object_of (
     ∷ number_at (codes "sectors") d.sectors
     ∷ [])
 
--- those that have other data, and those that weren't compared
-abbrev pub scrub_data : List Difference → List (List ℕ) → Data
-scrub_data differ uncompared = object_of (
-    each_at (codes "differ") difference_data differ
-    ∷ texts_at (codes "uncompared") uncompared
+-- of a component with this flaw: that its data differ, if they do
+abbrev pub difference_by : List ℕ → Flaw → List Difference
+difference_by p Uncompared = []
+difference_by p (Differs n first) = record { provider = p; sectors = n; first = first } ∷ []
+
+abbrev pub difference_of : Scrubbed → List Difference
+difference_of x = difference_by x.provider x.flaw
+
+-- its name, if its data weren't compared
+abbrev pub uncompared_by : List ℕ → Flaw → List (List ℕ)
+uncompared_by p Uncompared = p ∷ []
+uncompared_by p (Differs n first) = []
+
+abbrev pub uncompared_of : Scrubbed → List (List ℕ)
+uncompared_of x = uncompared_by x.provider x.flaw
+
+-- those whose data differ, and those that weren't compared, each in this order
+abbrev pub differing : List Scrubbed → List Difference
+differing flaws = flat_map difference_of flaws
+
+abbrev pub uncompared : List Scrubbed → List (List ℕ)
+uncompared flaws = flat_map uncompared_of flaws
+
+-- the component is put to those that it belongs to
+pub record IsAddedTo (x : Scrubbed) (old new : Apart) : Type 0 where
+  pub differ : new.differ.items ≡ old.differ.items ++ difference_of x
+  pub uncompared : new.uncompared.items ≡ old.uncompared.items ++ uncompared_of x
+
+-- both
+abbrev pub scrub_data : List Scrubbed → Data
+scrub_data flaws = object_of (
+    each_at (codes "differ") difference_data (differing flaws)
+    ∷ texts_at (codes "uncompared") (uncompared flaws)
     ∷ [])
 
 -- the texts
 abbrev pub audit_json : List (List ℕ) → List ℕ
 audit_json names = text_of (audit_data names)
 
-abbrev pub scrub_json : List Difference → List (List ℕ) → List ℕ
-scrub_json differ uncompared = text_of (scrub_data differ uncompared)
+abbrev pub scrub_json : List Scrubbed → List ℕ
+scrub_json flaws = text_of (scrub_data flaws)

@@ -1,24 +1,65 @@
 //! What is told of components that were looked at: by an audit, or by a comparison of data.
 
-ghost use Rattle.std.specs.Prelude.{◌≡◌, IfOk, map};
+ghost use Rattle.std.specs.Prelude.{◌≡◌, IfOk, OnOk, map};
 ghost use Rattle.std.specs.String.{string_bytes};
 ghost use Rattle.serde_json.specs.Data.{string};
 ghost use Rattle.serde_json.specs.View.{items_of, items_view, view};
-ghost use Rattle.gm_json.specs.Audits.{audit_data, audit_json, difference_data, scrub_data, scrub_json};
+ghost use Rattle.gm_json.specs.Audits.{IsAddedTo, audit_data, audit_json, difference_data, differing, scrub_data, scrub_json, uncompared};
 
 use crate::text::text_of;
+use gm_looks::{Flaw, Scrubbed};
 use gm_metadata::Label;
 use serde_json::{Value, json};
 use std::alloc::{AllocError, Global};
 
-/// A component that has other data than its mirror.
-#[derive(Clone, Copy, Debug, PartialEq, Eq)]
-pub struct Difference {
-    pub provider: Label,
-    /// In how many sectors.
-    pub sectors: u64,
-    /// The first of these.
-    pub first: u64,
+// A component that has other data than its mirror.
+#[derive(Clone, Copy, Debug)]
+pub(crate) struct Difference {
+    pub(crate) provider: Label,
+    // In how many sectors.
+    pub(crate) sectors: u64,
+    // The first of these.
+    pub(crate) first: u64,
+}
+
+// Components whose data aren't their mirror's, by what is amiss of them.
+#[derive(Drop)]
+pub(crate) struct Apart {
+    pub(crate) differ: Vec<Difference>,
+    pub(crate) uncompared: Vec<Label>,
+}
+
+impl Apart {
+    fn add(&mut self, found: &Scrubbed) -> Result<(), AllocError>
+        ensures { OnOk result (IsAddedTo found.now self.old self.new) }
+    {
+        let provider = found.provider;
+        match found.flaw {
+            Flaw::Uncompared => self.uncompared.push(provider),
+            Flaw::Differs { sectors, first } => {
+                self.differ.push(Difference {
+                    provider,
+                    sectors,
+                    first,
+                })
+            }
+        }
+    }
+}
+
+// Those whose data differ, and those that weren't compared, each in this order.
+pub(crate) fn apart(alloc: Global, flaws: &[Scrubbed]) -> Result<Apart, AllocError>
+    ensures differ { IfOk result (λ it. it.differ.items ≡ differing flaws.now) }
+    ensures uncompared { IfOk result (λ it. it.uncompared.items ≡ uncompared flaws.now) }
+{
+    let mut apart = Apart {
+        differ: Vec::new(alloc),
+        uncompared: Vec::new(alloc),
+    };
+    for found in flaws {
+        apart.add(found)?;
+    }
+    Ok(apart)
 }
 
 pub(crate) fn name_values(alloc: Global, names: &[Label]) -> Result<Vec<Value>, AllocError>
@@ -67,27 +108,20 @@ pub(crate) fn difference_values(
     Ok(values)
 }
 
-fn scrub_value(
-    alloc: Global,
-    differ: &[Difference],
-    uncompared: &[Label],
-) -> Result<Value, AllocError>
-    ensures { IfOk result (λ v. view v ≡ scrub_data differ.now uncompared.now) }
+fn scrub_value(alloc: Global, flaws: &[Scrubbed]) -> Result<Value, AllocError>
+    ensures { IfOk result (λ v. view v ≡ scrub_data flaws.now) }
 {
-    let differ = difference_values(alloc, differ)?;
-    let uncompared = name_values(alloc, uncompared)?;
+    let found = apart(alloc, flaws)?;
+    let differ = difference_values(alloc, &found.differ)?;
+    let uncompared = name_values(alloc, &found.uncompared)?;
     json!(in alloc; {"differ": differ, "uncompared": uncompared})
 }
 
 /// The components that have other data than their mirrors, and those that weren't compared, in
 /// this order.
-pub fn scrub_json(
-    alloc: Global,
-    differ: &[Difference],
-    uncompared: &[Label],
-) -> Result<String, AllocError>
-    ensures { IfOk result (λ text. string_bytes text ≡ scrub_json differ.now uncompared.now) }
+pub fn scrub_json(alloc: Global, flaws: &[Scrubbed]) -> Result<String, AllocError>
+    ensures { IfOk result (λ text. string_bytes text ≡ scrub_json flaws.now) }
 {
-    let value = scrub_value(alloc, differ, uncompared)?;
+    let value = scrub_value(alloc, flaws)?;
     text_of(alloc, &value)
 }

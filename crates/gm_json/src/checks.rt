@@ -5,44 +5,15 @@ ghost use Rattle.std.specs.String.{string_bytes};
 ghost use Rattle.serde_json.specs.View.{items_of, items_view, view};
 ghost use Rattle.gm_json.specs.Checks.{check_data, check_json, unlike_data, usage_data};
 
-use crate::audits::{Difference, difference_values, name_values};
+use crate::audits::{apart, difference_values, name_values};
 use crate::mirrors::standing_mirrors;
 use crate::text::text_of;
+use gm_commands::MAX_COMMANDS;
 use gm_looks::Unlike;
-use gm_metadata::Label;
-use gm_state::State;
-use gm_unlike::told_standing;
+use gm_state::MAX_MIRRORS;
+use gm_unlike::{Checkup, told_standing};
 use serde_json::{Value, json};
 use std::alloc::{AllocError, Global};
-
-/// How much of a registry is used, and how much it takes.
-#[derive(Clone, Copy, Debug)]
-pub struct Usage {
-    /// How long its file is.
-    pub bytes: u64,
-    /// How many commands it has accepted, and how many it accepts.
-    pub commands: u64,
-    pub commands_of: u64,
-    /// How many mirrors it has, and may have.
-    pub mirrors: u64,
-    pub mirrors_of: u64,
-}
-
-/// What a check found.
-#[derive(Clone, Copy)]
-pub struct Checked<'a> {
-    pub state: &'a State,
-    /// The components whose images aren't as they are registered.
-    pub unlike: &'a [Unlike],
-    /// The components whose data aren't their mirror's.
-    pub differ: &'a [Difference],
-    /// Those whose data weren't compared, because an image isn't there in its size.
-    pub uncompared: &'a [Label],
-    /// How many writes are pending.
-    pub pending: u64,
-    pub registry: Usage,
-    pub is_well: bool,
-}
 
 fn unlike_value(alloc: Global, unlike: &Unlike) -> Result<Value, AllocError>
     ensures { IfOk result (λ v. view v ≡ unlike_data unlike.now) }
@@ -62,39 +33,41 @@ fn unlike_values(alloc: Global, list: &[Unlike]) -> Result<Vec<Value>, AllocErro
     Ok(values)
 }
 
-fn usage_value(alloc: Global, usage: Usage) -> Result<Value, AllocError>
-    ensures { IfOk result (λ v. view v ≡ usage_data usage) }
+// How much of the registry is used, and how much it takes.
+fn usage_value(alloc: Global, found: &Checkup<'_>) -> Result<Value, AllocError>
+    ensures { IfOk result (λ v. view v ≡ usage_data found.now) }
 {
     json!(in alloc; {
-        "bytes": usage.bytes,
-        "commands": usage.commands,
-        "commands_of": usage.commands_of,
-        "mirrors": usage.mirrors,
-        "mirrors_of": usage.mirrors_of,
+        "bytes": found.bytes,
+        "commands": found.commands,
+        "commands_of": MAX_COMMANDS,
+        "mirrors": found.state.mirrors().len() as u64,
+        "mirrors_of": MAX_MIRRORS as u64,
     })
 }
 
-fn check_value(alloc: Global, found: &Checked<'_>) -> Result<Value, AllocError>
+fn check_value(alloc: Global, found: &Checkup<'_>) -> Result<Value, AllocError>
     ensures { IfOk result (λ v. view v ≡ check_data found.now) }
 {
-    let amiss = unlike_values(alloc, found.unlike)?;
-    let differ = difference_values(alloc, found.differ)?;
+    let flaws = apart(alloc, &found.amiss.flaws)?;
+    let amiss = unlike_values(alloc, &found.amiss.unlike)?;
+    let differ = difference_values(alloc, &flaws.differ)?;
     let mirrors = standing_mirrors(alloc, found.state)?;
-    let registry = usage_value(alloc, found.registry)?;
-    let uncompared = name_values(alloc, found.uncompared)?;
+    let registry = usage_value(alloc, found)?;
+    let uncompared = name_values(alloc, &flaws.uncompared)?;
     json!(in alloc; {
         "amiss": amiss,
         "differ": differ,
         "mirrors": mirrors,
-        "pending": found.pending,
+        "pending": found.pending as u64,
         "registry": registry,
         "uncompared": uncompared,
-        "well": found.is_well,
+        "well": found.is_well(),
     })
 }
 
 /// What a check found, with the mirrors as the status has them.
-pub fn check_json(alloc: Global, found: &Checked<'_>) -> Result<String, AllocError>
+pub fn check_json(alloc: Global, found: &Checkup<'_>) -> Result<String, AllocError>
     ensures { IfOk result (λ text. string_bytes text ≡ check_json found.now) }
 {
     let value = check_value(alloc, found)?;

@@ -19,8 +19,8 @@ mod tastings;
 mod text;
 
 pub use answers::{done_json, error_json, fault_json, refused_json, repeated_json};
-pub use audits::{Difference, audit_json, scrub_json};
-pub use checks::{Checked, Usage, check_json};
+pub use audits::{audit_json, scrub_json};
+pub use checks::check_json;
 pub use mirrors::{list_json, mirror_json, status_json};
 pub use sectors::{decode_json, metadata_json};
 pub use tastings::tasting_json;

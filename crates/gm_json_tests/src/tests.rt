@@ -1,15 +1,15 @@
 //! Every text is compact, with the keys of each object in byte order.
 
 use gm_json::{
-    Checked, Difference, Usage, audit_json, check_json, decode_json, done_json, error_json,
-    fault_json, list_json, metadata_json, mirror_json, refused_json, repeated_json, scrub_json,
-    status_json, tasting_json,
+    audit_json, check_json, decode_json, done_json, error_json, fault_json, list_json,
+    metadata_json, mirror_json, refused_json, repeated_json, scrub_json, status_json, tasting_json,
 };
-use gm_looks::{Standing, Unlike};
+use gm_looks::{Flaw, Scrubbed, Standing, Unlike};
 use gm_metadata::{Balance, DecodeFault, DiskFlags, Label, Metadata, MirrorFlags};
 use gm_shelf::{NoImage, PassedOver};
 use gm_state::{Component, Disk, Mirror, Reply, State, metadata};
 use gm_taste::{Group, LeftOut, Member, MemberState, Reason, Tasted};
+use gm_unlike::{Amiss, Checkup};
 use std::alloc::AllocError;
 use std::process::Abort;
 
@@ -273,20 +273,26 @@ fn all_mirrors_are_told(rt: HostRuntime) {
     must_be(&rt, list_json(rt.alloc(), &two_mirrors(&rt)), LIST);
 }
 
+fn differs(provider: Label, sectors: u64, first: u64) -> Scrubbed {
+    let flaw = Flaw::Differs { sectors, first };
+    Scrubbed { provider, flaw }
+}
+
+fn uncompared(provider: Label) -> Scrubbed {
+    let flaw = Flaw::Uncompared;
+    Scrubbed { provider, flaw }
+}
+
 #[test]
 fn components_that_were_looked_at_are_told(rt: HostRuntime) {
     let [a, b, c, d] = ["a.img", "b.img", "c.img", "d.img"].map(|name| label(&rt, name));
     must_be(&rt, audit_json(rt.alloc(), &[]), r#"{"amiss":[]}"#);
     let amiss = audit_json(rt.alloc(), &[a, b]);
     must_be(&rt, amiss, r#"{"amiss":["a.img","b.img"]}"#);
-    let none = scrub_json(rt.alloc(), &[], &[]);
+    let none = scrub_json(rt.alloc(), &[]);
     must_be(&rt, none, r#"{"differ":[],"uncompared":[]}"#);
-    let differ = [(b, 3, 17), (d, u64::MAX, 0)].map(|(provider, sectors, first)| Difference {
-        provider,
-        sectors,
-        first,
-    });
-    must_be(&rt, scrub_json(rt.alloc(), &differ, &[c]), SCRUB);
+    let flaws = [differs(b, 3, 17), uncompared(c), differs(d, u64::MAX, 0)];
+    must_be(&rt, scrub_json(rt.alloc(), &flaws), SCRUB);
 }
 
 #[test]
@@ -297,25 +303,18 @@ fn what_a_check_found_is_told(rt: HostRuntime) {
         provider: b,
         standing: Standing::Absent,
     }];
-    let differ = [Difference {
-        provider: c,
-        sectors: 3,
-        first: 17,
-    }];
-    let found = Checked {
+    let amiss = Amiss {
+        unlike: unlike.to_vec(rt.alloc()).expect(&rt, "no memory"),
+        flaws: [uncompared(b), differs(c, 3, 17)]
+            .to_vec(rt.alloc())
+            .expect(&rt, "no memory"),
+    };
+    let found = Checkup {
         state: &state,
-        unlike: &unlike,
-        differ: &differ,
-        uncompared: &[b],
+        amiss: &amiss,
         pending: 2,
-        registry: Usage {
-            bytes: 45_056,
-            commands: 17,
-            commands_of: 100_000,
-            mirrors: 1,
-            mirrors_of: 64,
-        },
-        is_well: false,
+        commands: 17,
+        bytes: 45_056,
     };
     must_be(&rt, check_json(rt.alloc(), &found), CHECK);
 }

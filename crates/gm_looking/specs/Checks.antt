@@ -1,34 +1,28 @@
--- When all is well, and what a check prints.
-use Rattle.std.specs.Prelude.{◌≡◌, ◌==◌, ◌&&◌, ◌++◌, ◌∷◌, ℕ, Bool, List, [], not, codes, count_by, flat_map, length, if◌then◌else◌}
+-- What a check prints.
+use Rattle.std.specs.Prelude.{◌≡◌, ◌++◌, ◌==◌, ℕ, Bool, true, false, List, [], None, not, codes, flat_map, length, if◌then◌else◌}
 use Rattle.std.specs.Fmt.{decimal}
-use Rattle.std.specs.List.{list_all}
 use Rattle.std.specs.String.{string_bytes}
-use Rattle.gm_metadata.specs.Images.{same_label}
-use Rattle.gm_state.specs.declared.records.Mirror.{Mirror}
-use Rattle.gm_state.specs.Lookups.{is_active}
+use Rattle.gm_metadata.specs.Images.{Image, Sizes}
 use Rattle.gm_state.specs.Records.{Records}
+use Rattle.gm_looks.specs.Scrubs.{IsScrub}
+use Rattle.gm_looks.specs.Unlikes.{IsUnlike}
 use Rattle.gm_looks.specs.declared.scrub.Flaw.{Flaw}
 use Rattle.gm_looks.specs.declared.scrub.Flaw.TheVariants.{Uncompared, Differs}
 use Rattle.gm_looks.specs.declared.scrub.Scrubbed.{Scrubbed}
+use Rattle.gm_unlike.specs.Checkups.{is_any, is_well}
 use Rattle.gm_unlike.specs.Texts.{unlike_line}
+use Rattle.gm_unlike.specs.declared.checkup.Amiss.{Amiss}
+use Rattle.gm_unlike.specs.declared.checkup.Checkup.{Checkup}
+use Rattle.gm_json.specs.Audits.{scrub_json}
+use Rattle.gm_json.specs.Checks.{check_json}
 use Rattle.gm_words.specs.Lines.{line}
 use Rattle.gm_words.specs.Status.{status_text}
+use Rattle.gm_command_line.specs.declared.job.Checking.{Checking}
 use Rattle.gm_command_line.specs.declared.job.Form.{Form}
 use Rattle.gm_command_line.specs.declared.job.Form.TheVariants.{Text, Json}
-use Rattle.gm_process.specs.Statuses.{status_of_refused}
+use Rattle.gm_process.specs.Statuses.{status_of_list, status_of_refused}
+use Rattle.gm_registry_files.specs.declared.unopened.Whole.{Whole}
 use Rattle.gm_reports.specs.declared.report.Report.{Report}
-use Rattle.gm_looking.specs.declared.checked.Found.{Found}
-
--- as many components of the mirror are ACTIVE as it has in all
-abbrev pub is_complete : Records → Mirror → Bool
-is_complete s m =
-    count_by (λ k. same_label k.mirror m.name && is_active k.disk) s.components == m.all
-
--- nothing is pending, each image is as it is registered and has its mirror's data, as far as they
--- were compared, and each mirror is COMPLETE
-abbrev pub is_well : Found → Bool
-is_well f = (f.pending == 0) && ((length f.unlike.now == 0) && ((length f.flaws.now == 0)
-    && list_all (is_complete f.state.now) f.state.now.mirrors))
 
 -- data differ in so many sectors
 unfoldable pub differs_in : ℕ → List ℕ
@@ -65,29 +59,57 @@ used_words what used most =
     what ++ codes " " ++ decimal used ++ codes " of " ++ decimal most ++ codes ", "
 
 -- how much of the registry is used
-abbrev pub usage_line : Found → List ℕ
-usage_line f =
-    used_words (codes "commands") f.commands 100000
-    ++ used_words (codes "mirrors") (length f.state.now.mirrors) 64
-    ++ line (codes "registry " ++ decimal f.bytes ++ codes " bytes")
+abbrev pub usage_line : Checkup → List ℕ
+usage_line c =
+    used_words (codes "commands") c.commands 100000
+    ++ used_words (codes "mirrors") (length c.state.now.mirrors) 64
+    ++ line (codes "registry " ++ decimal c.bytes ++ codes " bytes")
 
 -- what it comes to
 abbrev pub verdict : Bool → List ℕ
 verdict well = if well then codes "all is well\n" else codes "not all is well\n"
 
 -- how the mirrors stand, what is amiss, and how much of the registry is used
-abbrev pub check_text : Found → List ℕ
-check_text f =
-    status_text f.state.now ++ flat_map unlike_line f.unlike.now ++ flat_map flaw_line f.flaws.now
-    ++ pending_lines f.pending ++ usage_line f ++ verdict (is_well f)
+abbrev pub check_text : Checkup → List ℕ
+check_text c =
+    status_text c.state.now ++ flat_map unlike_line c.amiss.now.unlike.items
+    ++ flat_map flaw_line c.amiss.now.flaws.items
+    ++ pending_lines c.pending ++ usage_line c ++ verdict (is_well c)
 
--- these lines, if lines are asked for
-abbrev pub TellsCheck : Found → Form → List ℕ → Type 0
-TellsCheck f Text text = text ≡ check_text f
-TellsCheck f Json text = Unit {0}
+-- the text of a check, as lines or as JSON
+abbrev pub check_form : Checkup → Form → List ℕ
+check_form c Text = check_text c
+check_form c Json = line (check_json c)
 
--- refused unless all is well, with these lines if lines are asked for
-abbrev pub IsChecked : Found → Form → Report → Type 0
-IsChecked f form report =
-    (report.status ≡ status_of_refused (not (is_well f)))
-    × TellsCheck f form (string_bytes report.text)
+-- refused unless all is well, with its text
+pub record IsChecked (c : Checkup) (form : Form) (report : Report) : Type 0 where
+  pub status : report.status ≡ status_of_refused (not (is_well c))
+  pub text : string_bytes report.text ≡ check_form c form
+
+-- the text of a comparison of data, as lines or as JSON
+abbrev pub scrub_form : List Scrubbed → Form → List ℕ
+scrub_form flaws Text = flat_map flaw_line flaws
+scrub_form flaws Json = line (scrub_json flaws)
+
+-- refused if a component has a flaw, with its text
+pub record IsScrubReport (flaws : List Scrubbed) (form : Form) (report : Report) : Type 0 where
+  pub status : report.status ≡ status_of_list (length flaws)
+  pub text : string_bytes report.text ≡ scrub_form flaws form
+
+-- what is amiss of these images: how they stand, and if that is asked for their data
+pub record IsAmissOf (checking : Checking) (s : Records) (size : Sizes) (seen : Image)
+    (amiss : Amiss) : Type 0 where
+  pub unlike : IsUnlike is_any s size seen amiss.unlike.items
+  pub compared : checking.compares ≡ true → IsScrub s size seen None amiss.flaws.items
+  pub unasked : checking.compares ≡ false → amiss.flaws.items ≡ []
+
+-- a report of these records, and of these images
+pub record IsCheckOf (checking : Checking) (whole : Whole) (bytes : ℕ) (size : Sizes)
+    (seen : Image) (report : Report) : Type 0 where
+  pub found : Checkup
+  pub state : found.state.now ≡ whole.loaded.state
+  pub amiss : IsAmissOf checking whole.loaded.state size seen found.amiss.now
+  pub pending : found.pending ≡ length whole.loaded.intents.items
+  pub commands : found.commands ≡ whole.accepted
+  pub bytes : found.bytes ≡ bytes
+  pub told : IsChecked found checking.form report

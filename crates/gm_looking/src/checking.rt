@@ -3,45 +3,64 @@
 
 ghost use Rattle.std.specs.Prelude.{IfOk};
 ghost use Rattle.gm_process.specs.Statuses.{MayRefuse};
+ghost use Rattle.gm_looking.specs.Checks.{IsAmissOf, IsCheckOf};
 
-use crate::checked::{Found, check_report};
+use crate::checked::check_report;
 use crate::read_only::{hold, images_at, records_at};
 use gm_command_line::Checking;
 use gm_faults::Fault;
-use gm_looks::{Meant, Scrubbed, Unlike, scrub_shelf, unlike_shelf};
 use gm_process::{Meter, Patience, Place, Status, Streams};
-use gm_registry_files::{accepted_of, length_of};
+use gm_registry_files::{Whole, length_of};
+use gm_reports::Report;
 use gm_shelf::Shelf;
 use gm_state::State;
+use gm_unlike::{Amiss, Checkup, amiss_shelf};
 use std::io::Write;
 
-// What is amiss of images.
-#[derive(Drop)]
-struct Images {
-    unlike: Vec<Unlike>,
-    flaws: Vec<Scrubbed>,
-}
-
-// Holds the images against the records, and their data against each other if that is asked for.
-fn images_found<H: Shelf, I, O, E: Write>(
+// What is amiss of the images.
+fn amiss_of<H: Shelf, I, O, E: Write>(
     rt: &HostRuntime,
     checking: Checking,
     state: &State,
     shelf: &mut H,
     streams: &mut Streams<'_, I, O, E>,
-) -> Result<Images, Fault> {
-    let alloc = rt.alloc();
-    let unlike = unlike_shelf(alloc, shelf, state, Meant::All)?;
-    if !checking.compares {
-        let flaws = Vec::new(alloc);
-        return Ok(Images { unlike, flaws });
-    }
-    let style = streams.explaining.style(checking.is_quiet);
+) -> Result<Amiss, Fault>
+    ensures { H.honest shelf.old → IfOk result (IsAmissOf checking state.now
+        (H.size shelf.old) (H.view shelf.old).seen) }
+{
+    let style = streams
+        .explaining
+        .style(checking.is_quiet || !checking.compares);
     let mut meter = Meter::new(rt, streams.complaints, style);
-    let flaws = scrub_shelf(alloc, shelf, state, &None, &mut meter);
+    let amiss = amiss_shelf(rt.alloc(), shelf, state, checking.compares, &mut meter);
     meter.end();
-    let flaws = flaws?;
-    Ok(Images { unlike, flaws })
+    Ok(amiss?)
+}
+
+/// How the mirrors and their images stand, how much of the registry is used, whose file is so many
+/// bytes long, and whether all is well.
+pub fn check_shelf<H: Shelf, I, O, E: Write>(
+    rt: &HostRuntime,
+    checking: Checking,
+    whole: &Whole,
+    bytes: u64,
+    shelf: &mut H,
+    streams: &mut Streams<'_, I, O, E>,
+) -> Result<Report, Fault>
+    ensures told { H.honest shelf.old → IfOk result (IsCheckOf checking whole.now bytes
+        (H.size shelf.old) (H.view shelf.old).seen) }
+    ensures ends { IfOk result (λ report. MayRefuse report.status) }
+{
+    let records = &whole.loaded;
+    let amiss = amiss_of(rt, checking, &records.state, shelf, streams)?;
+    let found = Checkup {
+        state: &records.state,
+        amiss: &amiss,
+        pending: records.intents.len(),
+        commands: whole.accepted,
+        bytes,
+    };
+    Ok(check_report(rt.alloc(), &found, checking.form)?)
 }
 
 /// Prints how the mirrors and their images stand, how much of the registry is used, and whether all
@@ -56,22 +75,12 @@ pub fn check_place<I, O: Write, E: Write>(
     ensures { IfOk result MayRefuse }
 {
     let _held = hold(rt, place.folder, patience, streams)?;
-    let records = records_at(rt, place.registry, patience, streams)?;
-    let commands = accepted_of(rt, place.registry)?;
+    let whole = records_at(rt, place.registry, patience, streams)?;
     let bytes = length_of(rt, place.registry)?;
     let mut shelf = images_at(rt, place, streams)?;
-    let images = images_found(rt, checking, &records.state, &mut shelf, streams);
+    let report = check_shelf(rt, checking, &whole, bytes, &mut shelf, streams);
     streams.explaining.failure = shelf.last_failure();
-    let images = images?;
-    let found = Found {
-        state: &records.state,
-        unlike: &images.unlike,
-        flaws: &images.flaws,
-        pending: records.intents.len(),
-        commands,
-        bytes,
-    };
-    let report = check_report(rt.alloc(), &found, checking.form)?;
+    let report = report?;
     streams.output.write_all(report.text.as_bytes())?;
     Ok(report.status)
 }

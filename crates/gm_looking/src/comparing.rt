@@ -1,11 +1,12 @@
 //! The command `scrub`, which lists the components whose data aren't their mirror's.
 
-ghost use Rattle.std.specs.Prelude.{◌≡◌, length, IfOk};
+ghost use Rattle.std.specs.Prelude.{IfOk};
 ghost use Rattle.gm_bench.specs.Benches.{progress_of};
 ghost use Rattle.gm_bench.specs.Phases.{TakesCommands};
-ghost use Rattle.gm_process.specs.Statuses.{MayRefuse, status_of_list};
+ghost use Rattle.gm_process.specs.Statuses.{MayRefuse};
+ghost use Rattle.gm_looking.specs.Checks.{IsScrubReport};
 
-use crate::flaws::{flaws_apart, flaws_text};
+use crate::flaws::flaws_text;
 use gm_bench::Bench;
 use gm_command_line::{Comparing, Form};
 use gm_faults::Fault;
@@ -18,19 +19,13 @@ use sqlite::Alter;
 use std::alloc::{AllocError, Global};
 use std::io::Write;
 
-// They as JSON.
-fn flaws_json(alloc: Global, found: &[Scrubbed]) -> Result<String, AllocError> {
-    let flaws = flaws_apart(alloc, found)?;
-    scrub_json(alloc, &flaws.differ, &flaws.uncompared)
-}
-
 /// Says which components were found otherwise than their mirror.
 pub fn scrub_report(alloc: Global, found: &[Scrubbed], form: Form) -> Result<Report, AllocError>
-    ensures { IfOk result (λ report. report.status ≡ status_of_list (length found.now)) }
+    ensures { IfOk result (IsScrubReport found.now form) }
 {
     let text = match form {
         Form::Text => flaws_text(alloc, found)?,
-        Form::Json => as_line(flaws_json(alloc, found)?)?,
+        Form::Json => as_line(scrub_json(alloc, found)?)?,
     };
     let status = if found.is_empty() {
         Status::Done

@@ -4,9 +4,7 @@ ghost use Rattle.std.specs.Prelude.{◌≡◌, ◌++◌, IfOk, OnOk, flat_map};
 ghost use Rattle.std.specs.String.{string_bytes};
 ghost use Rattle.gm_looking.specs.Checks.{difference, differs_in, first_words, flaw_line, flaw_words};
 
-use gm_json::Difference;
 use gm_looks::{Flaw, Scrubbed};
-use gm_metadata::Label;
 use std::alloc::{AllocError, Global};
 
 // Appends in how many sectors data differ.
@@ -64,28 +62,4 @@ pub(crate) fn flaws_text(alloc: Global, list: &[Scrubbed]) -> Result<String, All
         push_line(&mut text, found)?;
     }
     Ok(text)
-}
-
-/// Components with a flaw, by which it is.
-#[derive(Drop)]
-pub(crate) struct Flaws {
-    pub(crate) differ: Vec<Difference>,
-    pub(crate) uncompared: Vec<Label>,
-}
-
-/// Those whose data differ, and those that weren't compared.
-pub(crate) fn flaws_apart(alloc: Global, list: &[Scrubbed]) -> Result<Flaws, AllocError> {
-    let mut differ: Vec<Difference> = Vec::new(alloc);
-    let mut uncompared: Vec<Label> = Vec::new(alloc);
-    for found in list {
-        match found.flaw {
-            Flaw::Uncompared => uncompared.push(found.provider)?,
-            Flaw::Differs { sectors, first } => differ.push(Difference {
-                provider: found.provider,
-                sectors,
-                first,
-            })?,
-        }
-    }
-    Ok(Flaws { differ, uncompared })
 }

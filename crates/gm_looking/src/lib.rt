@@ -3,7 +3,7 @@
 //!
 //! `taste.rt` says what the images of a folder tell, `read_only.rt` has the commands that show a
 //! registry as it stands (`specs/Looks.antt` says how they end), and `comparing.rt` compares data.
-//! `checking.rt` looks at all of it at once, and `checked.rt` says whether all is well
+//! `checking.rt` looks at all of it at once, and `checked.rt` tells what was found
 //! (`specs/Checks.antt`). `flaws.rt` has the lines of data that differ.
 #![tactic(auto)]
 
@@ -14,7 +14,7 @@ mod flaws;
 mod read_only;
 mod taste;
 
-pub use checking::check_place;
+pub use checking::{check_place, check_shelf};
 pub use comparing::scrub;
 pub use read_only::{look_at, show_pending, show_pending_at};
 pub use taste::taste_folder;

@@ -12,7 +12,7 @@ use gm_faults::Fault;
 use gm_looks::{audit_shelf, pending_text, pending_text_on};
 use gm_process::{HeldFolder, Patience, Place, Status, Streams};
 use gm_registry::{Loaded, StoreFault};
-use gm_registry_files::{StoreCause, leave_out_registry, records_of, store_cause};
+use gm_registry_files::{StoreCause, Whole, leave_out_registry, records_of, store_cause};
 use gm_reports::{Report, audit_report, list_report, status_report};
 use gm_shelf::{FileShelf, Shelf};
 use gm_state::Intent;
@@ -77,7 +77,7 @@ pub(crate) fn records_at<I, O, E>(
     registry: &str,
     patience: Patience,
     streams: &mut Streams<'_, I, O, E>,
-) -> Result<Loaded, Fault> {
+) -> Result<Whole, Fault> {
     let alloc = rt.alloc();
     for _ in 0..u64::MAX {
         match records_of(rt, registry) {
@@ -115,7 +115,7 @@ pub fn show_pending<I, O: Write, E>(
     patience: Patience,
     streams: &mut Streams<'_, I, O, E>,
 ) -> Result<Status, Fault> {
-    let records = records_at(rt, registry, patience, streams)?;
+    let records = records_at(rt, registry, patience, streams)?.loaded;
     let report = pending_report(rt.alloc(), &records.intents)?;
     streams.output.write_all(report.text.as_bytes())?;
     Ok(report.status)
@@ -129,7 +129,7 @@ pub fn show_pending_at<I, O: Write, E>(
     streams: &mut Streams<'_, I, O, E>,
 ) -> Result<Status, Fault> {
     let _held = hold(rt, place.folder, patience, streams)?;
-    let records = records_at(rt, place.registry, patience, streams)?;
+    let records = records_at(rt, place.registry, patience, streams)?.loaded;
     let mut shelf = images_at(rt, place, streams)?;
     let report = pending_report_on(rt.alloc(), &records, &mut shelf);
     streams.explaining.failure = shelf.last_failure();
@@ -149,7 +149,7 @@ pub fn look_at<I, O: Write, E: Write>(
     ensures { IfOk result (MayShow look) }
 {
     let _held = hold(rt, place.folder, patience, streams)?;
-    let records = records_at(rt, place.registry, patience, streams)?;
+    let records = records_at(rt, place.registry, patience, streams)?.loaded;
     let mut shelf = images_at(rt, place, streams)?;
     let report = look_report(rt.alloc(), look, &records, &mut shelf);
     streams.explaining.failure = shelf.last_failure();

@@ -16,5 +16,5 @@ mod unusable;
 pub use beside::without_beside;
 pub use foreign::foreign_fault;
 pub use registry_files::{is_there, leave_out_registry, length_of};
-pub use unopened::{accepted_of, records_of};
+pub use unopened::{Whole, records_of};
 pub use unusable::{StoreCause, is_no_database, store_cause};

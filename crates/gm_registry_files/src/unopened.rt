@@ -2,14 +2,18 @@
 //! SQLite writes stays in memory, so that no file is written, not even SQLite's log.
 
 ghost use Rattle.std.specs.Prelude.{◌≡◌, ◌≢◌, IsTrue, IfOk, IfErr};
+ghost use Rattle.gm_state.specs.Rows.{Tables};
+ghost use Rattle.gm_registry.specs.Registry.{DiskKept, HasTables};
+ghost use Rattle.gm_registry_files.specs.Wholes.{IsWholeOf};
 
 use crate::registry_files::file_fault;
 use gm_overlay::{OverlayDisk, disk_over};
 use gm_registry::{Loaded, Registry, StoreFault};
 use gm_shelf::FileId;
 use os::RangeLock;
-use sqlite::{Connection, FileStore, Files, Options};
+use sqlite::{Alter, Connection, FileStore, Files, Options};
 use sqlite_disk::Disk;
+use std::alloc::Global;
 use std::fs::{self, File};
 use std::hash::{BuildHasher, RandomState};
 use std::io::{self, ErrorKind};
@@ -109,15 +113,26 @@ fn registry_at(
     }
 }
 
-/// What a registry holds as it stands. `Store` if there is no such file, if another program has it
-/// open, or if its journal holds anything; `Unreadable` if an opening would say so.
-pub fn records_of(rt: &HostRuntime, registry: &str) -> Result<Loaded, StoreFault> {
-    let mut opened = registry_at(rt, registry)?;
-    opened.load(rt.alloc())
+/// What a registry holds, and how many commands it has accepted.
+#[derive(Drop)]
+pub struct Whole {
+    pub loaded: Loaded,
+    pub accepted: u64,
 }
 
-/// How many commands a registry has accepted. It fails as `records_of`.
-pub fn accepted_of(rt: &HostRuntime, registry: &str) -> Result<u64, StoreFault> {
+// Reads all of a registry.
+fn read_whole<S: Alter>(alloc: Global, registry: &mut Registry<S>) -> Result<Whole, StoreFault>
+    ensures { DiskKept S.Store registry.new → IfOk result (λ whole. (t : Tables)
+        → HasTables S.Store registry.old t → IsWholeOf t whole) }
+{
+    let loaded = registry.load(alloc)?;
+    let accepted = registry.accepted()?;
+    Ok(Whole { loaded, accepted })
+}
+
+/// What a registry holds as it stands. `Store` if there is no such file, if another program has it
+/// open, or if its journal holds anything; `Unreadable` if an opening would say so.
+pub fn records_of(rt: &HostRuntime, registry: &str) -> Result<Whole, StoreFault> {
     let mut opened = registry_at(rt, registry)?;
-    opened.accepted()
+    read_whole(rt.alloc(), &mut opened)
 }

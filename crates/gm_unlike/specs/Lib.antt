@@ -1,1 +1,2 @@
+pub mod Checkups
 pub mod Texts

@@ -4,5 +4,6 @@ use Rattle.gm_json.proofs.NoFloats.{scrub_none}
 use Rattle.gm_json.proofs.audits.scrub_json.Goals as goal
 
 pub text_of-requires : goal.text_of-requires
-text_of-requires c = ap has_float c.in_ok-value.ensures ∙
-    scrub_none c.args.differ.now c.args.uncompared.now
+text_of-requires c =
+    ap has_float c.in_ok-value.ensures
+    ∙ scrub_none c.args.flaws.now
