@@ -1,15 +1,65 @@
 //! What the help of the program and of its subcommands says below their options.
 
-/// What the help of the program says below its commands.
-pub(crate) const MORE: &str =
-    "All but dump and taste take --registry FILE --shelf DIR: the registry, and the folder with the
-images. If there is no registry, recover, status, list, audit, batch, serve, and do with label or
-adopt make one, and say so; with --existing they don't. Each first carries out what a run that
-stopped left pending; recover can go on without an image that is gone for good. dump and taste look
-at images alone, and write nothing. Nor do pending and check, nor status, list and audit with
---read-only: they show the registry as it is. If --registry or --shelf is left out, GMBENCH_REGISTRY
-or GMBENCH_SHELF of the environment is taken. GMBENCH_EXISTING=1 and GMBENCH_EXPLAIN=1 are
---existing and --explain.
+/// The help of the program.
+pub(crate) const HELP: &str = "A workshop for disk images that are mirrors of gmirror(8)
+
+Usage: gmbench <COMMAND>
+
+Make and change mirrors:
+  label       Makes a mirror of an image
+  insert      Adds an image to a mirror, to be filled
+  remove      Takes a component out of a mirror
+  deactivate  Takes a component out of use
+  activate    Takes an INACTIVE component back into use, to be filled
+  forget      Waits no longer for components that were lost
+  rebuild     Has a component filled anew
+  configure   Changes settings of a mirror, or the priority of a component
+  clear       Wipes the metadata of an image that no registered mirror has
+  destroy     Drops a mirror
+  lost        Drops components whose images won't come back
+  advance     Fills the next 256 sectors of a component
+  adopt       Registers a mirror that is found on images
+  patch       Changes sectors of a mirror's data
+  do          Carries out one command under a key
+  batch       Carries out the commands of standard input, a line each
+
+Fill and check:
+  sync        Fills the components that are SYNCHRONIZING
+  scrub       Compares the data of the components that are ACTIVE
+  audit       Lists the components whose images aren't as they are registered
+  check       Says whether all is well, and writes nothing
+
+Look:
+  status      Shows in a few lines how the mirrors stand
+  list        Shows all that is known of the mirrors and their components
+  dump        Prints what the last sector of an image says
+  taste       Prints which mirrors the images of a folder tell of by themselves
+
+After a stop:
+  pending     Prints what a run that stopped left pending, and carries out nothing
+  recover     Carries out what a run that stopped left pending
+
+Serve:
+  serve       Answers requests over HTTP, on 127.0.0.1 alone
+
+Options:
+  -h, --help     Print help
+  -V, --version  Print version
+
+gmbench help COMMAND, or gmbench COMMAND --help, says more of each.
+
+All but dump and taste take --registry FILE --shelf DIR: the registry, and the folder with the
+images. If there is no registry, recover, status, list, audit, batch, serve, label, adopt, and do
+with one of these two make one, and say so; with --existing they don't. Each first carries out what
+a run that stopped left pending; recover can go on without an image that is gone for good. dump and
+taste look at images alone, and write nothing. Nor do pending and check, nor status, list and audit
+with --read-only: they show the registry as it is. If --registry or --shelf is left out,
+GMBENCH_REGISTRY or GMBENCH_SHELF of the environment is taken. GMBENCH_EXISTING=1 and
+GMBENCH_EXPLAIN=1 are --existing and --explain.
+
+A command is carried out once under its key. label, insert and the others take one of gmbench's own,
+and tell it in their answer. A script names one by --key: whoever runs it again after a stop gets
+the first answer.
 
 With --explain, or if standard error is a terminal, a sentence there says what a refusal or a fault
 means.
@@ -23,8 +73,8 @@ Exit statuses:
 Example:
   mkdir images && truncate -s 1M images/a.img images/b.img
   export GMBENCH_REGISTRY=registry GMBENCH_SHELF=images
-  gmbench do k1 label --mid 7 --did 1 gm0 a.img
-  gmbench do k2 insert --did 2 gm0 b.img
+  gmbench label gm0 a.img
+  gmbench insert gm0 b.img
   gmbench sync
   gmbench status";
 
@@ -116,17 +166,17 @@ Example:
 
 /// What the help of `sync` says below its options.
 pub(crate) const FILLING: &str =
-    "Without NAME it fills the components of all mirrors, without PROV all of the mirror's. It hands in
-`advance` under keys of its own, `sync-N`, so that it may be stopped at any time and be begun again.
-First it audits those mirrors. One with an image that isn't as it is registered is passed over: the
-image is named, nothing is written to the mirror, and the status is 1. At the end a line for each
-component says its state:
+    "Without NAME it fills the components of all mirrors, without PROV all of the mirror's. It hands
+in `advance` under keys of its own, `sync-N`, so that it may be stopped at any time and be begun
+again. First it audits those mirrors. One with an image that isn't as it is registered is passed
+over: the image is named, nothing is written to the mirror, and the status is 1. At the end a line
+for each component says its state:
   NAME PROV STATE";
 
 /// What the help of `scrub` says below its options.
 pub(crate) const COMPARING: &str =
-    "Without NAME it goes through all mirrors. It compares the data of each ACTIVE component with that of
-the mirror's source, the ACTIVE component with the greatest priority and then the least name. It
+    "Without NAME it goes through all mirrors. It compares the data of each ACTIVE component with that
+of the mirror's source, the ACTIVE component with the greatest priority and then the least name. It
 prints a line for each that differs, and one for each that can't be compared:
   PROV differs in N sectors, first K
   PROV isn't compared

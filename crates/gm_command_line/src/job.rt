@@ -3,25 +3,8 @@
 ghost use Rattle.std.specs.Prelude.{◌≡◌};
 ghost use Rattle.gm_command_line.specs.Works.{makes_registry, registers};
 
+use crate::by_itself::Unnumbered;
 use gm_metadata::Label;
-
-/// The commands that `do` and the lines of a batch have.
-pub const COMMANDS: [&str; 14] = [
-    "label",
-    "insert",
-    "remove",
-    "deactivate",
-    "activate",
-    "forget",
-    "rebuild",
-    "configure",
-    "clear",
-    "destroy",
-    "lost",
-    "advance",
-    "adopt",
-    "patch",
-];
 
 // Whether the first of these words is that of a command which registers a mirror.
 fn registers(words: &[&str]) -> bool
@@ -106,6 +89,18 @@ pub struct Checks {
     pub losses: bool,
 }
 
+/// A command by itself.
+#[derive(Clone, Copy)]
+pub struct Single<'a> {
+    /// The key that it was given; if none was, it gets one of gmbench's own.
+    pub key: Option<&'a str>,
+    /// Its words, options first, and the names after `--`.
+    pub words: &'a [&'a str],
+    /// The numbers that gmbench chooses for it.
+    pub unnumbered: Unnumbered,
+    pub checks: Checks,
+}
+
 /// What is to be done at a bench whose opening carried out what was pending.
 #[derive(Clone, Copy)]
 pub enum Work<'a> {
@@ -131,6 +126,8 @@ pub enum Work<'a> {
         words: &'a [&'a str],
         checks: Checks,
     },
+    /// Hand in a command by itself.
+    Command(Single<'a>),
     /// Hand in the commands of an input, and answer each. If it audits, the images that a command
     /// is about are looked at before it, and it ends at the first command that one stands in the
     /// way of; if it stops, it ends at the first that is refused.
@@ -154,6 +151,7 @@ impl Work<'_> {
         match *self {
             Work::Sync(_) | Work::Scrub(_) => false,
             Work::Do { words, .. } => registers(words),
+            Work::Command(single) => registers(single.words),
             _ => true,
         }
     }

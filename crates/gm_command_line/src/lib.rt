@@ -1,18 +1,22 @@
 //! The program's own words: which subcommands and options there are, what its help says of them,
-//! and which job they ask for. `job.rt` has the jobs, `settings.rt` what stands for options that
-//! are left out, `table.rt` the table with the texts of `help.rt`, and `reading.rt` what words ask
-//! for. The lines of a batch are other words (`gm_words`).
+//! and which job they ask for.
+//!
+//! `job.rt` has the jobs, `settings.rt` what stands for options that are left out, `table.rt` the
+//! table with the texts of `help.rt`, `by_itself.rt` the commands that change mirrors, and
+//! `reading.rt` what words ask for. The lines of a batch are other words (`gm_words`).
 #![tactic(auto)]
 
+mod by_itself;
 mod help;
 mod job;
 mod reading;
 mod settings;
 mod table;
 
+pub use by_itself::{Unnumbered, is_command};
 pub use job::{
-    Asked, COMMANDS, Checking, Checks, Comparing, Filling, Form, Job, Look, Manner, Scope, Service,
+    Asked, Checking, Checks, Comparing, Filling, Form, Job, Look, Manner, Scope, Service, Single,
     Work,
 };
-pub use reading::asked_of;
+pub use reading::{Handed, Read, read};
 pub use settings::{EXISTING, EXPLAIN, REGISTRY, SHELF, Setting, Settings};

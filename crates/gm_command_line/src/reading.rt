@@ -1,7 +1,9 @@
 //! What the program's own words ask for.
 
+use crate::by_itself::{ByItself, Unnumbered, command_named};
 use crate::job::{
-    Asked, Checking, Checks, Comparing, Filling, Form, Job, Look, Manner, Scope, Service, Work,
+    Asked, Checking, Checks, Comparing, Filling, Form, Job, Look, Manner, Scope, Service, Single,
+    Work,
 };
 use crate::settings::{REGISTRY, SHELF, Setting, Settings};
 use crate::table::{DUMP, RECOVER, SCRUB, SYNC, Subcommand, program, program_command};
@@ -260,10 +262,15 @@ fn command_of<'a>(given: &ArgMatches<'a>, words: &'a [&'a str]) -> Work<'a> {
     Work::Do {
         key: given.get_str("key").unwrap_or(""),
         words: &words[words.len().saturating_sub(count)..],
-        checks: Checks {
-            images: !given.get_flag("unchecked"),
-            losses: !given.get_flag("force"),
-        },
+        checks: checks_of(given),
+    }
+}
+
+// What is looked at before one command is handed in.
+fn checks_of(given: &ArgMatches<'_>) -> Checks {
+    Checks {
+        images: !given.get_flag("unchecked"),
+        losses: !given.get_flag("force"),
     }
 }
 
@@ -343,12 +350,18 @@ fn job_by<'a>(
 
 // How these matches of the program's words, or else the settings, would have it done.
 fn manner_by(matches: &ArgMatches<'_>, settings: Settings<'_>) -> Manner {
-    let mut manner = manner_of_settings(settings);
-    if let Some((_, given)) = matches.subcommand() {
-        manner.existing |= given.get_flag("existing");
-        manner.explains |= given.get_flag("explain");
-        manner.wait = given.get_one("wait").unwrap_or(0);
+    match matches.subcommand() {
+        Some((_, given)) => manner_given(given, settings),
+        None => manner_of_settings(settings),
     }
+}
+
+// How what was given to a subcommand, or else the settings, would have it done.
+fn manner_given(given: &ArgMatches<'_>, settings: Settings<'_>) -> Manner {
+    let mut manner = manner_of_settings(settings);
+    manner.existing |= given.get_flag("existing");
+    manner.explains |= given.get_flag("explain");
+    manner.wait = given.get_one("wait").unwrap_or(0);
     manner
 }
 
@@ -360,23 +373,98 @@ fn manner_of_settings(settings: Settings<'_>) -> Manner {
     }
 }
 
+/// A command by itself, and how it is to be done.
+#[derive(Drop)]
+pub struct Handed<'a> {
+    words: Vec<&'a str>,
+    key: Option<&'a str>,
+    unnumbered: Unnumbered,
+    checks: Checks,
+    registry: &'a str,
+    folder: &'a str,
+    manner: Manner,
+}
+
+impl Handed<'_> {
+    /// The job that it asks for.
+    pub fn asked(&self) -> Asked<'_> {
+        Asked {
+            job: Job::AtBench {
+                work: Work::Command(Single {
+                    key: self.key,
+                    words: &self.words,
+                    unnumbered: self.unnumbered,
+                    checks: self.checks,
+                }),
+                registry: self.registry,
+                folder: self.folder,
+            },
+            manner: self.manner,
+        }
+    }
+}
+
+// What these matches ask for, of the words of a command by itself.
+fn handed_by<'a>(
+    alloc: Global,
+    command: ByItself,
+    given: &ArgMatches<'a>,
+    settings: Settings<'a>,
+) -> Result<Handed<'a>, Error> {
+    Ok(Handed {
+        words: command.words(alloc, given)?,
+        key: given.get_str("key"),
+        unnumbered: command.unnumbered(given),
+        checks: checks_of(given),
+        registry: registry_of(alloc, given, settings)?,
+        folder: folder_of(alloc, given, settings)?,
+        manner: manner_given(given, settings),
+    })
+}
+
+// The command by itself that these matches are of, if they are of one, and what was given to it.
+fn handed_of<'a>(
+    alloc: Global,
+    matches: &ArgMatches<'a>,
+    settings: Settings<'a>,
+) -> Result<Option<Handed<'a>>, Error> {
+    let Some((name, given)) = matches.subcommand() else {
+        return Ok(None);
+    };
+    match command_named(name) {
+        Some(command) => Ok(Some(handed_by(alloc, command, given, settings)?)),
+        None => Ok(None),
+    }
+}
+
+/// What words ask for.
+#[derive(Drop)]
+pub enum Read<'a> {
+    Asked(Asked<'a>),
+    /// A command by itself, whose words are put in order.
+    Handed(Handed<'a>),
+}
+
 /// What the words ask for, without the program's own name; of options that are left out, the
 /// settings say what stands for them. An `Err` is clap's: the text to print, or of the kind
 /// `OutOfMemory`.
-pub fn asked_of<'a>(
+pub fn read<'a>(
     alloc: Global,
     words: &'a [&'a str],
     settings: Settings<'a>,
-) -> Result<Asked<'a>, Error> {
+) -> Result<Read<'a>, Error> {
     if words.is_empty() {
-        return Ok(Asked {
+        return Ok(Read::Asked(Asked {
             job: Job::Introduce,
             manner: manner_of_settings(settings),
-        });
+        }));
     }
     let matches = program_command(alloc, settings)?.try_get_matches_from(words)?;
-    Ok(Asked {
+    if let Some(handed) = handed_of(alloc, &matches, settings)? {
+        return Ok(Read::Handed(handed));
+    }
+    Ok(Read::Asked(Asked {
         job: job_by(alloc, &matches, words, settings)?,
         manner: manner_by(&matches, settings),
-    })
+    }))
 }

@@ -1,6 +1,7 @@
 //! The table of the program's own words, for `clap`.
 
-use crate::help::{CHECKING, COMPARING, FILLING, LINES, LOSSES, MORE, REQUESTS, WORDS, WRITES};
+use crate::by_itself::{ByItself, commands};
+use crate::help::{CHECKING, COMPARING, FILLING, HELP, LINES, LOSSES, REQUESTS, WORDS, WRITES};
 use crate::settings::Settings;
 use clap::builder::ValueParser;
 use clap::{Arg, ArgAction, Command};
@@ -177,6 +178,11 @@ fn command_words<'a>(alloc: Global) -> Arg<'a> {
         .allow_hyphen_values(true)
 }
 
+fn own_key_option<'a>(alloc: Global) -> Arg<'a> {
+    let help = "The key under which it is carried out, once, in place of one of gmbench's own";
+    with_value(alloc, "key", "KEY", help)
+}
+
 // What a subcommand takes.
 #[derive(Clone, Copy)]
 enum Takes {
@@ -263,7 +269,7 @@ const SUBCOMMANDS: [Subcommand; 13] = [
     },
     Subcommand {
         name: "do",
-        about: "Carries out one command",
+        about: "Carries out one command under a key",
         takes: Takes::BenchAndCommand,
     },
     Subcommand {
@@ -449,10 +455,26 @@ impl Subcommand {
     }
 }
 
+// A command that changes mirrors, by itself.
+fn command_by_itself<'a>(
+    alloc: Global,
+    command: ByItself,
+    settings: Settings<'a>,
+) -> Result<Command<'a>, AllocError> {
+    let command = with_bench(alloc, command.command(alloc)?, settings)?;
+    command
+        .arg(unchecked_option(alloc))?
+        .arg(force_option(alloc))?
+        .arg(own_key_option(alloc))
+}
+
 fn subcommands<'a>(alloc: Global, settings: Settings<'a>) -> Result<Vec<Command<'a>>, AllocError> {
     let mut all = Vec::new(alloc);
     for subcommand in &SUBCOMMANDS {
         all.push(subcommand.command(alloc, settings)?)?;
+    }
+    for command in commands() {
+        all.push(command_by_itself(alloc, *command, settings)?)?;
     }
     Ok(all)
 }
@@ -465,7 +487,7 @@ pub(crate) fn program<'a>(alloc: Global) -> Result<Command<'a>, AllocError> {
             .version("0.1.0")
             .no_binary_name(true)
             .subcommand_required(true)
-            .after_help(MORE),
+            .override_help(HELP),
     )
 }
 

@@ -1,6 +1,6 @@
 //! Where words belong that are in a wrong place after `do`.
 
-use gm_command_line::COMMANDS;
+use gm_command_line::is_command;
 use gm_front::Outcome;
 use std::io::Write;
 
@@ -40,15 +40,16 @@ fn say_place<E: Write>(complaints: &mut E, words: &[&str], key: &str) {
             complaints,
             "tip: {option} comes before the key: gmbench do {option} .. {key} .."
         );
-    } else if COMMANDS.iter().any(|name| *name == key) {
+    } else if is_command(key) {
         let _ = writeln!(
             complaints,
-            "tip: a key comes before the command: gmbench do KEY {key} .."
+            "tip: a key comes after do: gmbench do KEY {key} .., or without both gmbench {key} .."
         );
     }
 }
 
-/// Tells whoever wrote no command, but an option of `do` after the key, or no key, where it belongs.
+/// Tells whoever wrote no command, but an option of `do` after the key, or no key, where it
+/// belongs.
 pub(crate) fn say_tip<E: Write>(complaints: &mut E, words: &[&str], outcome: &Outcome<'_>) {
     if let Outcome::Wrong(key) = *outcome {
         say_place(complaints, words, key);

@@ -35,15 +35,16 @@ impl Apart {
     {
         let provider = found.provider;
         match found.flaw {
-            Flaw::Uncompared => self.uncompared.push(provider),
+            Flaw::Uncompared => self.uncompared.push(provider)?,
             Flaw::Differs { sectors, first } => {
                 self.differ.push(Difference {
                     provider,
                     sectors,
                     first,
-                })
+                })?
             }
         }
+        Ok(())
     }
 }
 

@@ -10,7 +10,7 @@ use gm_bench::Bench;
 use gm_command_line::Work;
 use gm_faults::Fault;
 use gm_filling::fill_components;
-use gm_handing_in::{Lines, hand_in, hand_in_lines_of, hand_in_one, serve};
+use gm_handing_in::{Lines, hand_in, hand_in_by_itself, hand_in_lines_of, hand_in_one, serve};
 use gm_looking::scrub;
 use gm_process::{Status, Streams};
 use gm_reports::{Report, audit_report, list_report, status_report};
@@ -59,6 +59,10 @@ pub fn perform<S: Alter, H: Shelf, I: BufRead, O: Write, E: Write>(
         Work::Scrub(comparing) => scrub(rt, comparing, bench, streams),
         Work::Do { key, words, checks } => {
             let status = hand_in_one(rt, key, words, checks, bench, streams)?;
+            Ok(told(alloc, status))
+        }
+        Work::Command(single) => {
+            let status = hand_in_by_itself(rt, single, bench, streams)?;
             Ok(told(alloc, status))
         }
         Work::Batch {

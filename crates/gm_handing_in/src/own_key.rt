@@ -1,0 +1,58 @@
+//! Keys of gmbench's own, for commands that weren't given one.
+
+ghost use Rattle.std.specs.Prelude.{◌≡◌, IfOk, IfSome, OnOk};
+ghost use Rattle.std.specs.String.{string_bytes};
+ghost use Rattle.gm_state.specs.Rows.{Tables};
+ghost use Rattle.gm_registry.specs.Registry.{DiskKept, HasTables};
+ghost use Rattle.gm_registry.specs.Replies.{IsFree};
+ghost use Rattle.gm_bench.specs.Benches.{progress_of, registry_of};
+
+use gm_bench::{Bench, BenchFault};
+use gm_commands::MAX_COMMANDS;
+use gm_shelf::Shelf;
+use sqlite::Alter;
+use std::alloc::Global;
+
+// The key of this number.
+fn key_of(alloc: Global, number: u64) -> Result<String, BenchFault> {
+    match format!(in alloc; "g{number:06}") {
+        Ok(key) => Ok(key),
+        Err(_) => Err(BenchFault::Memory),
+    }
+}
+
+// The key of this number, if no command was accepted under it.
+fn key_if_free<S: Alter, H: Shelf>(
+    alloc: Global,
+    bench: &mut Bench<S, H>,
+    number: u64,
+) -> Result<Option<String>, BenchFault>
+    ensures free { DiskKept S.Store (registry_of bench.new) → IfOk result (λ found. IfSome found
+        (λ key. (t : Tables) → HasTables S.Store (registry_of bench.old) t
+        → IsFree t (string_bytes key))) }
+    ensures progress { OnOk result (progress_of bench.new ≡ progress_of bench.old) }
+{
+    let key = key_of(alloc, number)?;
+    match bench.kept(key.as_str())? {
+        Some(_) => Ok(None),
+        None => Ok(Some(key)),
+    }
+}
+
+/// A key under which no command was accepted: `g` and the number that the next command gets, in six
+/// digits or more, or a number after it. `None` if as many are taken as a registry has commands.
+pub(crate) fn own_key<S: Alter, H: Shelf>(
+    alloc: Global,
+    bench: &mut Bench<S, H>,
+) -> Result<Option<String>, BenchFault>
+    ensures { OnOk result (progress_of bench.new ≡ progress_of bench.old) }
+{
+    let mut number = bench.accepted()?;
+    for _ in 0..=MAX_COMMANDS {
+        number = number.saturating_add(1);
+        if let Some(key) = key_if_free(alloc, bench, number)? {
+            return Ok(Some(key));
+        }
+    }
+    Ok(None)
+}
