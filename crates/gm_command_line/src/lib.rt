@@ -18,5 +18,5 @@ pub use job::{
     Asked, Checking, Checks, Comparing, Filling, Form, Job, Look, Manner, Scope, Service, Single,
     Work,
 };
-pub use reading::{Handed, Read, read};
+pub use reading::{Handed, Reading, asked_of};
 pub use settings::{EXISTING, EXPLAIN, REGISTRY, SHELF, Setting, Settings};

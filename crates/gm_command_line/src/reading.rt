@@ -439,7 +439,7 @@ fn handed_of<'a>(
 
 /// What words ask for.
 #[derive(Drop)]
-pub enum Read<'a> {
+pub enum Reading<'a> {
     Asked(Asked<'a>),
     /// A command by itself, whose words are put in order.
     Handed(Handed<'a>),
@@ -448,22 +448,22 @@ pub enum Read<'a> {
 /// What the words ask for, without the program's own name; of options that are left out, the
 /// settings say what stands for them. An `Err` is clap's: the text to print, or of the kind
 /// `OutOfMemory`.
-pub fn read<'a>(
+pub fn asked_of<'a>(
     alloc: Global,
     words: &'a [&'a str],
     settings: Settings<'a>,
-) -> Result<Read<'a>, Error> {
+) -> Result<Reading<'a>, Error> {
     if words.is_empty() {
-        return Ok(Read::Asked(Asked {
+        return Ok(Reading::Asked(Asked {
             job: Job::Introduce,
             manner: manner_of_settings(settings),
         }));
     }
     let matches = program_command(alloc, settings)?.try_get_matches_from(words)?;
     if let Some(handed) = handed_of(alloc, &matches, settings)? {
-        return Ok(Read::Handed(handed));
+        return Ok(Reading::Handed(handed));
     }
-    Ok(Read::Asked(Asked {
+    Ok(Reading::Asked(Asked {
         job: job_by(alloc, &matches, words, settings)?,
         manner: manner_by(&matches, settings),
     }))

@@ -3,7 +3,7 @@
 use crate::place::{Terms, work_at};
 use clap::Error;
 use clap::error::ErrorKind;
-use gm_command_line::{Asked, Job, Read, Work, read};
+use gm_command_line::{Asked, Job, Reading, Work, asked_of};
 use gm_dump::dump;
 use gm_faults::{Fault, explain_fault};
 use gm_looking::{check_place, look_at, show_pending, show_pending_at, taste_folder};
@@ -88,9 +88,9 @@ fn run<I: BufRead, O: Write, E: Write>(
     streams: &mut Streams<'_, I, O, E>,
 ) -> Result<Status, Fault> {
     let environment = Environment::find(rt)?;
-    let done = match read(rt.alloc(), words, environment.settings()) {
-        Ok(Read::Asked(asked)) => perform(rt, &asked, streams),
-        Ok(Read::Handed(handed)) => perform(rt, &handed.asked(), streams),
+    let done = match asked_of(rt.alloc(), words, environment.settings()) {
+        Ok(Reading::Asked(asked)) => perform(rt, &asked, streams),
+        Ok(Reading::Handed(handed)) => perform(rt, &handed.asked(), streams),
         Err(error) => print_error(&error, streams.output, streams.complaints),
     };
     // What was printed before a fault is to be seen as well.
