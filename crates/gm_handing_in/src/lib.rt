@@ -3,7 +3,6 @@
 //!
 //! `single.rt` hands in one command (`do`), `batch.rt` those of an input, and `serving.rt` those
 //! that come over connections; each says how the program ends then (`specs/Ends.antt`).
-//! `by_itself.rt` hands in a command by itself, by `own_key.rt` and `own_numbers.rt`.
 //! `explainer.rt` says in a sentence why a command is refused, with `reason.rt` if the mirrors are
 //! known, and `withheld.rt` what is to be done if images stand in its way. `lost_by.rt` says what
 //! would be lost by a command, and asks whether it is carried out all the same. `tip.rt` says where
@@ -11,11 +10,8 @@
 #![tactic(auto)]
 
 mod batch;
-mod by_itself;
 mod explainer;
 mod lost_by;
-mod own_key;
-mod own_numbers;
 mod reason;
 mod serving;
 mod single;
@@ -23,6 +19,5 @@ mod tip;
 mod withheld;
 
 pub use batch::{Lines, hand_in, hand_in_lines_of};
-pub use by_itself::hand_in_by_itself;
 pub use serving::{serve, serve_connections};
 pub use single::hand_in_one;

@@ -7,10 +7,11 @@ ghost use Rattle.gm_program.specs.Ends.{MayEnd};
 
 use crate::recover::recovered;
 use gm_bench::Bench;
+use gm_by_itself::hand_in_by_itself;
 use gm_command_line::Work;
 use gm_faults::Fault;
 use gm_filling::fill_components;
-use gm_handing_in::{Lines, hand_in, hand_in_by_itself, hand_in_lines_of, hand_in_one, serve};
+use gm_handing_in::{Lines, hand_in, hand_in_lines_of, hand_in_one, serve};
 use gm_looking::scrub;
 use gm_process::{Status, Streams};
 use gm_reports::{Report, audit_report, list_report, status_report};

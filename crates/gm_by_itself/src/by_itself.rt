@@ -8,10 +8,10 @@ ghost use Rattle.gm_process.specs.Statuses.{MayRefuse};
 
 use crate::own_key::own_key;
 use crate::own_numbers::{Numbers, own_numbers};
-use crate::single::hand_in_one;
 use gm_bench::Bench;
 use gm_command_line::Single;
 use gm_faults::Fault;
+use gm_handing_in::hand_in_one;
 use gm_process::{Status, Streams};
 use gm_shelf::Shelf;
 use sqlite::Alter;
