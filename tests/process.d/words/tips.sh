@@ -18,7 +18,7 @@ command_lines >"$work/commands"
 [ "$(grep -c . "$work/commands")" = 14 ] && pass 'the help has the commands' || fail 'the help has the commands' "$(cat "$work/commands")"
 while read -r word behind; do
     at_bench do "$word" gm0 a.img
-    expect_tip "$word without a key" 1 "a key comes before the command: gmbench do KEY $word .."
+    expect_tip "$word without a key" 1 "a key comes after do: gmbench do KEY $word .., or without both gmbench $word .."
 done <"$work/commands"
 at_bench do k1 paint gm0
 expect_no_tip 'a word of no command' 1
