@@ -16,6 +16,7 @@ makes_registry (work.Sync filling) = false
 makes_registry (work.Scrub comparing) = false
 makes_registry (work.Do key words checks) = registers words.now
 makes_registry (work.Command single) = registers single.words.now
+makes_registry (work.AdoptAll checks) = true
 makes_registry work.Recover = true
 makes_registry (work.RecoverWithout provider key) = true
 makes_registry (work.Status form) = true

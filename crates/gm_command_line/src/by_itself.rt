@@ -1,7 +1,6 @@
 //! The commands that change mirrors, each by itself: `gmbench label gm0 a.img` is `gmbench do KEY
 //! label --mid N --did N gm0 a.img` under a key and with numbers of gmbench's own.
 
-use clap::builder::ValueParser;
 use clap::{Arg, ArgAction, ArgMatches, Command};
 use std::alloc::{AllocError, Global};
 
@@ -16,6 +15,11 @@ enum Place {
     Name,
     // one or more, by their places
     Names,
+    // by its place, and one or more, unless all are meant
+    NameUnlessAll,
+    NamesUnlessAll,
+    // an option without a value
+    All,
 }
 
 // A word that a command takes.
@@ -141,23 +145,50 @@ const PROVS: Word = Word {
     place: Place::Names,
 };
 
+const ALL: Word = Word {
+    option: "--all",
+    id: "all",
+    value: "",
+    help: "Adopts each mirror that the images of the folder show whole",
+    place: Place::All,
+};
+
+const NAME_UNLESS_ALL: Word = Word {
+    place: Place::NameUnlessAll,
+    ..NAME
+};
+
+const PROVS_UNLESS_ALL: Word = Word {
+    place: Place::NamesUnlessAll,
+    ..PROVS
+};
+
 impl Word {
-    fn arg<'a>(self, alloc: Global) -> Arg<'a> {
-        let arg = Arg::new(alloc, self.id)
-            .value_name(self.value)
-            .help(self.help)
-            .value_parser(ValueParser::string());
-        match self.place {
-            Place::Option => arg.long(self.id).action(ArgAction::Set),
+    fn arg<'a>(self, alloc: Global) -> Result<Arg<'a>, AllocError> {
+        let arg = Arg::new(alloc, self.id).help(self.help);
+        if matches!(self.place, Place::All) {
+            return arg
+                .long(self.id)
+                .action(ArgAction::SetTrue)
+                .conflicts_with("name");
+        }
+        let arg = arg.value_name(self.value);
+        Ok(match self.place {
+            Place::Option | Place::All => arg.long(self.id).action(ArgAction::Set),
             Place::Wanted => arg.long(self.id).required(true).action(ArgAction::Set),
             Place::Name => arg.required(true).action(ArgAction::Set),
             Place::Names => arg.required(true).action(ArgAction::Append),
-        }
+            Place::NameUnlessAll => arg.action(ArgAction::Set).required_unless_present("all")?,
+            Place::NamesUnlessAll => {
+                arg.action(ArgAction::Append)
+                    .required_unless_present("all")?
+            }
+        })
     }
 
-    // Whether it is given by its place.
-    fn is_placed(self) -> bool {
-        matches!(self.place, Place::Name | Place::Names)
+    // Whether it is an option with a value.
+    fn is_option(self) -> bool {
+        matches!(self.place, Place::Option | Place::Wanted)
     }
 }
 
@@ -295,9 +326,12 @@ Example:
         about: "Registers a mirror that is found on images",
         more: "`gmbench taste` shows which are there. It writes the last sectors of the images.
 
+With --all it adopts each mirror whose images are all there, but for BROKEN ones. It names the
+others, and the status is 1 then.
+
 Example:
   gmbench adopt gm0 a.img b.img",
-        words: &[NAME, PROVS],
+        words: &[ALL, NAME_UNLESS_ALL, PROVS_UNLESS_ALL],
     },
     ByItself {
         name: "patch",
@@ -335,7 +369,7 @@ impl ByItself {
             .about(self.about)
             .after_help(self.more);
         for word in self.words {
-            command = command.arg(word.arg(alloc))?;
+            command = command.arg(word.arg(alloc)?)?;
         }
         Ok(command)
     }
@@ -347,7 +381,7 @@ impl ByItself {
         words: &mut Vec<&'a str>,
     ) -> Result<(), AllocError> {
         for word in self.words {
-            if word.is_placed() {
+            if !word.is_option() {
                 continue;
             }
             if let Some(value) = given.get_str(word.id) {
@@ -365,7 +399,7 @@ impl ByItself {
         words: &mut Vec<&'a str>,
     ) -> Result<(), AllocError> {
         for word in self.words {
-            if !word.is_placed() {
+            if word.is_option() || matches!(word.place, Place::All) {
                 continue;
             }
             if let Some(values) = given.get_strs(word.id) {

@@ -128,6 +128,8 @@ pub enum Work<'a> {
     },
     /// Hand in a command by itself.
     Command(Single<'a>),
+    /// Adopt each mirror that the images show whole.
+    AdoptAll(Checks),
     /// Hand in the commands of an input, and answer each. If it audits, the images that a command
     /// is about are looked at before it, and it ends at the first command that one stands in the
     /// way of; if it stops, it ends at the first that is refused.

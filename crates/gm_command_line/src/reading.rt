@@ -289,6 +289,7 @@ fn work_of<'a>(
         "audit" => Some(Work::Audit(form_of(given))),
         "scrub" => Some(Work::Scrub(comparing_of(alloc, given, settings)?)),
         "do" => Some(command_of(given, words)),
+        "adopt" => Some(Work::AdoptAll(checks_of(given))),
         "batch" => Some(Work::Batch {
             audits: given.get_flag("audit"),
             stops: given.get_flag("stop"),
@@ -432,8 +433,10 @@ fn handed_of<'a>(
         return Ok(None);
     };
     match command_named(name) {
-        Some(command) => Ok(Some(handed_by(alloc, command, given, settings)?)),
-        None => Ok(None),
+        Some(command) if !given.get_flag("all") => {
+            Ok(Some(handed_by(alloc, command, given, settings)?))
+        }
+        _ => Ok(None),
     }
 }
 

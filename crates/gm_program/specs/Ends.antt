@@ -17,6 +17,7 @@ MayEnd (work.Audit form) status = MayRefuse status
 MayEnd (work.Scrub comparing) status = MayRefuse status
 MayEnd (work.Do key words checks) status = MayRefuse status
 MayEnd (work.Command single) status = MayRefuse status
+MayEnd (work.AdoptAll checks) status = MayRefuse status
 MayEnd (work.Batch audits stops) status = MayRefuse status
 MayEnd (work.Sync filling) status = MayRefuse status
 MayEnd (work.Serve service) status = status ≡ Done

@@ -7,7 +7,7 @@ ghost use Rattle.gm_program.specs.Ends.{MayEnd};
 
 use crate::recover::recovered;
 use gm_bench::Bench;
-use gm_by_itself::hand_in_by_itself;
+use gm_by_itself::{adopt_all, hand_in_by_itself};
 use gm_command_line::Work;
 use gm_faults::Fault;
 use gm_filling::fill_components;
@@ -64,6 +64,10 @@ pub fn perform<S: Alter, H: Shelf, I: BufRead, O: Write, E: Write>(
         }
         Work::Command(single) => {
             let status = hand_in_by_itself(rt, single, bench, streams)?;
+            Ok(told(alloc, status))
+        }
+        Work::AdoptAll(checks) => {
+            let status = adopt_all(rt, checks, bench, streams)?;
             Ok(told(alloc, status))
         }
         Work::Batch {

@@ -71,7 +71,10 @@ fn perform<I: BufRead, O: Write, E: Write>(
             registry,
             folder,
         } => {
-            streams.explaining.wanted |= matches!(*work, Work::Do { .. } | Work::Command(_));
+            streams.explaining.wanted |= matches!(
+                *work,
+                Work::Do { .. } | Work::Command(_) | Work::AdoptAll(_)
+            );
             streams.explaining.folder = String::from_str(rt.alloc(), folder)?;
             let terms = Terms {
                 makes: work.makes_registry() && !asked.manner.existing,

@@ -64,6 +64,26 @@ impl Checkup<'_> {
     }
 }
 
+// The components whose data aren't their mirror's, if that is asked for.
+fn flaws_of<H: Shelf, W: Watch>(
+    alloc: Global,
+    shelf: &mut H,
+    state: &State,
+    compares: bool,
+    watch: &mut W,
+) -> Result<Vec<Scrubbed>, ShelfFault>
+    ensures scrub { H.honest shelf.old → compares ≡ true → IfOk result (λ flaws.
+        IsScrub state.now (H.size shelf.old) (H.view shelf.old).seen None flaws.items) }
+    ensures unasked { compares ≡ false → IfOk result (λ flaws. flaws.items ≡ []) }
+    ensures looks { Looks H.Shelf shelf.old shelf.new result }
+{
+    if compares {
+        scrub_shelf(alloc, shelf, state, &None, watch)
+    } else {
+        Ok(Vec::new(alloc))
+    }
+}
+
 /// Holds the images against the records, and if that is asked for the data of the components
 /// against each other; of these the watch is told how far it is. `Device` if a sector can't be
 /// read, or `Memory`.
@@ -82,10 +102,6 @@ pub fn amiss_shelf<H: Shelf, W: Watch>(
     ensures looks { Looks H.Shelf shelf.old shelf.new result }
 {
     let unlike = unlike_shelf(alloc, shelf, state, Meant::All)?;
-    let flaws = if compares {
-        scrub_shelf(alloc, shelf, state, &None, watch)?
-    } else {
-        Vec::new(alloc)
-    };
+    let flaws = flaws_of(alloc, shelf, state, compares, watch)?;
     Ok(Amiss { unlike, flaws })
 }

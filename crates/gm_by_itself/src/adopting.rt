@@ -1,0 +1,194 @@
+//! The command `adopt --all`: each mirror that the images of the folder show whole is adopted, and
+//! the others are named.
+
+ghost use Rattle.std.specs.Prelude.{◌≡◌, IfOk};
+ghost use Rattle.gm_bench.specs.Benches.{progress_of};
+ghost use Rattle.gm_bench.specs.Phases.{TakesCommands};
+ghost use Rattle.gm_process.specs.Statuses.{MayRefuse};
+
+use crate::by_itself::hand_in_by_itself;
+use gm_bench::{Bench, Phase};
+use gm_command_line::{Checks, Single, Unnumbered};
+use gm_faults::Fault;
+use gm_looks::taste_shelf;
+use gm_metadata::Label;
+use gm_process::{Status, Streams};
+use gm_shelf::{FileShelf, Shelf};
+use gm_state::State;
+use gm_taste::{Group, Member, MemberState, Tasted, source_of};
+use sqlite::Alter;
+use std::alloc::{AllocError, Global};
+use std::io::{self, BufRead, Write};
+
+// Why a mirror isn't adopted.
+#[derive(Clone, Copy)]
+enum Left {
+    // another one has its name
+    SameName,
+    // none of its images is ACTIVE
+    NoneActive,
+    // it has so many of so many images
+    Incomplete { images: usize, all: u8 },
+}
+
+// What the images of a folder tell.
+fn tasted_in<I, O, E>(
+    rt: &HostRuntime,
+    streams: &mut Streams<'_, I, O, E>,
+) -> Result<Tasted, Fault> {
+    let folder = streams.explaining.folder.as_str();
+    let names = FileShelf::open(rt, folder)?.names()?;
+    let mut shelf = FileShelf::look_at(rt, folder, &names)?;
+    let tasted = taste_shelf(rt.alloc(), &mut shelf);
+    streams.explaining.failure = shelf.last_failure();
+    Ok(tasted?)
+}
+
+// Whether a mirror of this name and number is registered.
+fn is_registered(state: &State, group: &Group) -> bool {
+    match state.mirror(group.name) {
+        Some(mirror) => mirror.mid == group.mid,
+        None => false,
+    }
+}
+
+fn is_adoptable(member: &Member) -> bool {
+    !matches!(member.state, MemberState::Broken)
+}
+
+// How many images a mirror has, as its source says.
+fn all_of(group: &Group) -> Option<u8> {
+    let source = source_of(group)?;
+    let member = group
+        .members
+        .iter()
+        .find(|member| member.provider == source)?;
+    Some(member.metadata.all)
+}
+
+// Why a mirror of these is left, if it is.
+fn left(groups: &[Group], group: &Group) -> Option<Left> {
+    let same = groups
+        .iter()
+        .filter(|other| other.name == group.name)
+        .count();
+    if same > 1 {
+        return Some(Left::SameName);
+    }
+    let Some(all) = all_of(group) else {
+        return Some(Left::NoneActive);
+    };
+    let images = group
+        .members
+        .iter()
+        .filter(|member| is_adoptable(member))
+        .count();
+    if images < usize::from(all) {
+        return Some(Left::Incomplete { images, all });
+    }
+    None
+}
+
+// Says that a mirror is left, and why.
+fn say_left<O: Write>(output: &mut O, name: Label, why: Left) -> io::Result<()> {
+    match why {
+        Left::SameName => writeln!(output, "{name} left: two mirrors have this name"),
+        Left::NoneActive => writeln!(output, "{name} left: none of its images is ACTIVE"),
+        Left::Incomplete { images, all } => {
+            writeln!(
+                output,
+                "{name} left: {images} of its {all} images are there"
+            )
+        }
+    }
+}
+
+// The words of the command that adopts a mirror.
+fn words_of(alloc: Global, group: &Group) -> Result<Vec<&str>, AllocError> {
+    let mut words = Vec::new(alloc);
+    words.push("adopt")?;
+    words.push("--")?;
+    words.push(group.name.as_str())?;
+    for member in &group.members {
+        if is_adoptable(member) {
+            words.push(member.provider.as_str())?;
+        }
+    }
+    Ok(words)
+}
+
+// Adopts a mirror.
+fn adopt<S: Alter, H: Shelf, I: BufRead, O: Write, E: Write>(
+    rt: &HostRuntime,
+    group: &Group,
+    checks: Checks,
+    bench: &mut Bench<S, H>,
+    streams: &mut Streams<'_, I, O, E>,
+) -> Result<Status, Fault>
+    requires { TakesCommands (progress_of bench.old) }
+    ensures { IfOk result MayRefuse }
+{
+    let words = words_of(rt.alloc(), group)?;
+    let single = Single {
+        key: None,
+        words: &words,
+        unnumbered: Unnumbered {
+            mirror: false,
+            component: false,
+        },
+        checks,
+    };
+    hand_in_by_itself(rt, single, bench, streams)
+}
+
+// Adopts a mirror, or says why it is left. One that is registered isn't named.
+fn adopt_or_leave<S: Alter, H: Shelf, I: BufRead, O: Write, E: Write>(
+    rt: &HostRuntime,
+    groups: &[Group],
+    group: &Group,
+    checks: Checks,
+    bench: &mut Bench<S, H>,
+    streams: &mut Streams<'_, I, O, E>,
+) -> Result<Status, Fault>
+    requires { TakesCommands (progress_of bench.old) }
+    ensures { IfOk result MayRefuse }
+{
+    let state = bench.view(rt.alloc())?;
+    if is_registered(&state, group) {
+        return Ok(Status::Done);
+    }
+    match left(groups, group) {
+        Some(why) => {
+            say_left(streams.output, group.name, why)?;
+            Ok(Status::Refused)
+        }
+        None => adopt(rt, group, checks, bench, streams),
+    }
+}
+
+/// Adopts each mirror that the images of the folder show whole, under keys of gmbench's own, and
+/// names the others. It is refused if one is left or refused.
+pub fn adopt_all<S: Alter, H: Shelf, I: BufRead, O: Write, E: Write>(
+    rt: &HostRuntime,
+    checks: Checks,
+    bench: &mut Bench<S, H>,
+    streams: &mut Streams<'_, I, O, E>,
+) -> Result<Status, Fault>
+    ensures { IfOk result MayRefuse }
+{
+    let tasted = tasted_in(rt, streams)?;
+    let groups = tasted.groups.as_slice();
+    let mut refused = false;
+    for group in groups {
+        if !matches!(bench.phase(), Phase::Ready) {
+            break;
+        }
+        let status = adopt_or_leave(rt, groups, group, checks, bench, streams)?;
+        refused |= status == Status::Refused;
+    }
+    if refused {
+        Ok(Status::Refused)
+    } else {
+        Ok(Status::Done)
+    }
+}
