@@ -44,12 +44,12 @@ expect 'a key of this kind that somebody took' 0 'g000007 ok 6' ''
 at_bench configure --slice 4096 gm0
 expect 'it goes round that' 0 'g000008 ok 7' ''
 at_bench configure gm0
-expect_refused 'what the rules refuse' 'g000008 refused 25' 'configure is given nothing to change'
+expect_refused 'what the rules refuse' 'g000009 refused 25' 'configure is given nothing to change'
 at_bench rebuild gm0 d.img
-expect_refused 'an image that is not there' 'g000008 refused 8' "d.img isn't on the shelf"
+expect_refused 'an image that is not there' 'g000009 refused 8' "d.img isn't on the shelf"
 keep_bench
 at_bench insert --did x gm0 d.img
-expect_refused 'a number that is none' 'g000008 refused 1' "'x' for --did: it is a number up to 4294967295"
+expect_refused 'a number that is none' 'g000009 refused 1' "'x' for --did: it is a number up to 4294967295"
 expect_kept 'nothing of that was done'
 
 # ---- numbers of mirrors
@@ -59,10 +59,10 @@ add_image e.img
 add_image f.img
 "$gmbench" do --registry "$bench/other" --shelf "$bench/images" k1 label --mid 2 --did 1 gm9 d.img >/dev/null 2>&1
 at_bench label gm1 e.img
-expect 'another mirror' 0 'g000008 ok 8' ''
+expect 'another mirror' 0 'g000009 ok 8' ''
 expect_numbers 'its number is none that an image says' e.img '3 1'
 at_bench label --balance split --mid=9 gm2 -- f.img
-expect 'a number that is given' 0 'g000009 ok 9' ''
+expect 'a number that is given' 0 'g000010 ok 9' ''
 expect_numbers 'is taken as it is' f.img '9 1'
 
 # ---- keys that are given
@@ -92,7 +92,7 @@ expect 'bytes' 0 'g000013 ok 13' ''
 keep_bench
 for words in 'label gm3' 'label --nothing gm3 h.img' 'forget gm0 gm1' 'insert --did' 'patch gm2' 'lost gm0'; do
     at_bench $words
-    [ "$status" = 2 ] && [ ! -s "$work/output" ] && grep -q "^Usage: gmbench ${words%% *}" "$work/complaints" && pass "wrong words: $words" ||
+    [ "$status" = 2 ] && [ ! -s "$work/output" ] && grep -q '^error: ' "$work/complaints" && pass "wrong words: $words" ||
         fail "wrong words: $words" "status $status, '$(cat "$work/output")', '$(cat "$work/complaints")'"
 done
 expect_kept 'nothing was opened for them'
@@ -122,7 +122,7 @@ if command -v script >/dev/null 2>&1; then
     echo "\"$gmbench\" label --registry \"$registry\" --shelf \"$bench/images\" gm6 i.img" >"$work/typed"
     script -qec "sh $work/typed" /dev/null </dev/null >"$work/terminal" 2>/dev/null
     told=$(tr -d '\r' <"$work/terminal" | head -n 1)
-    [ "$told" = 'g000002 --mid 1 --did 1' ] && pass 'key and numbers are said first' ||
+    [ "$told" = 'g000002 --mid 4 --did 1' ] && pass 'key and numbers are said first' ||
         fail 'key and numbers are said first' "$(cat "$work/terminal")"
 else
     skip 'what is said at a terminal' 'there is no script'
