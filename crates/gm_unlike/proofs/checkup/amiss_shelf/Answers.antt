@@ -7,7 +7,7 @@ use Rattle.gm_unlike.proofs.checkup.amiss_shelf.Goals as goal
 pub returns-clause-scrub : goal.returns-clause-scrub
 returns-clause-scrub g c h compares =
     let only = c.in_ok-unlike.ensures.looks.only in
-    let flaws = c.in_ok-flaws.field-0.items in
+    let flaws = c.in_ok-flaws.flaws.items in
     subst (λ (z : Sizes). IsScrub c.args.state.now z (g.H.Shelf.view c.args.shelf.now).seen None
     flaws) only.keeps.size
     (subst (λ (x : Image). IsScrub c.args.state.now (g.H.Shelf.size c.unlike_shelf.new.shelf) x None
