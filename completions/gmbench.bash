@@ -1,6 +1,6 @@
 # Completes gmbench's words in bash. Source this file, or put it as `gmbench` into a folder of bash-completion.
 
-# The options of a subcommand.
+# The options of a subcommand, or those of the program that each command has by itself.
 _gmbench_options() {
     case $1 in
         dump | taste) echo --shelf --json --explain --help ;;
@@ -13,10 +13,11 @@ _gmbench_options() {
         batch) echo --registry --shelf --existing --explain --wait --audit --stop --help ;;
         sync) echo --registry --shelf --explain --wait --unchecked --quiet --help ;;
         serve) echo --registry --shelf --existing --explain --wait --port --count --log --audit --any-origin --help ;;
+        by-itself) echo --registry --shelf --existing --explain --wait --unchecked --force --key --help ;;
     esac
 }
 
-# The options of a command after the key of `do`.
+# The options of a command that changes mirrors, beside those of the program.
 _gmbench_command_options() {
     case $1 in
         label) echo --mid --did --balance --slice --autosync --failsync --hardcode ;;
@@ -26,17 +27,17 @@ _gmbench_command_options() {
     esac
 }
 
-# Whether an image may follow so many names, of which the third is this command after the key of `do`.
+# Whether an image may follow this command and so many names after it.
 _gmbench_wants_image() {
     case $1 in
         '' | forget | destroy | configure | patch) false ;;
-        clear) [[ $2 = 3 ]] ;;
-        lost | adopt) [[ $2 -gt 3 ]] ;;
-        *) [[ $2 = 4 ]] ;;
+        clear) [[ $2 = 0 ]] ;;
+        lost | adopt) [[ $2 -gt 0 ]] ;;
+        *) [[ $2 = 1 ]] ;;
     esac
 }
 
-# Whether the name that follows this command after the key of `do` is that of a mirror which is registered.
+# Whether the name that follows this command is that of a mirror which is registered.
 _gmbench_wants_mirror() {
     case $1 in
         insert | remove | deactivate | activate | forget | rebuild | configure | destroy | lost | advance | patch) true ;;
@@ -77,9 +78,9 @@ _gmbench_offer_paths() {
     compopt -o filenames 2>/dev/null
 }
 
-# Offers what may follow so many names, of which the third is this command after the key of `do`.
+# Offers what may follow this command and so many names after it.
 _gmbench_offer_names() {
-    if [[ $2 = 3 ]] && _gmbench_wants_mirror "$1"; then
+    if [[ $2 = 0 ]] && _gmbench_wants_mirror "$1"; then
         _gmbench_offer_mirrors
     elif _gmbench_wants_image "$1" "$2"; then
         _gmbench_offer_images
@@ -87,8 +88,9 @@ _gmbench_offer_names() {
 }
 
 _gmbench() {
-    local subcommands='dump taste pending recover status list audit scrub check do batch sync serve help'
     local commands='label insert remove deactivate activate forget rebuild configure clear destroy lost advance adopt patch'
+    local subcommands="$commands dump taste pending recover status list audit scrub check do batch sync serve help"
+    local command='' named=0
     local word=${COMP_WORDS[COMP_CWORD]} registry=${GMBENCH_REGISTRY-} shelf=${GMBENCH_SHELF-} option='' names=() before
     COMPREPLY=()
 
@@ -113,6 +115,13 @@ _gmbench() {
     done
     [[ -z $option || $word != = ]] || word=
 
+    # The command that changes mirrors, by itself or after the key of `do`, and how many names are after it.
+    if [[ ${names[0]-} = do ]]; then
+        command=${names[2]-} named=$((${#names[@]} - 3))
+    elif [[ " $commands " = *" ${names[0]-} "* ]]; then
+        command=${names[0]} named=$((${#names[@]} - 1))
+    fi
+
     case $option in
         --registry) _gmbench_offer_paths -f ;;
         --shelf) _gmbench_offer_paths -d ;;
@@ -127,15 +136,16 @@ _gmbench() {
             ,0 | help,1) _gmbench_offer $subcommands ;;
             do,2) _gmbench_offer $commands ;;
             scrub,1 | sync,1) _gmbench_offer_mirrors ;;
-            do,*) _gmbench_offer_names "${names[2]-}" ${#names[@]} ;;
             dump,1 | sync,2) _gmbench_offer_images ;;
+            *) _gmbench_offer_names "$command" "$named" ;;
         esac
         [[ ${#COMPREPLY[@]} = 0 ]] || return
     fi
     case ${names[0]-},${#names[@]} in
         ,0) _gmbench_offer --help --version ;;
         do,2) ;;
-        do,[3-9] | do,??*) _gmbench_offer $(_gmbench_command_options "${names[2]}") ;;
+        do,[3-9] | do,??*) _gmbench_offer $(_gmbench_command_options "$command") ;;
+        "$command",*) _gmbench_offer $(_gmbench_options by-itself) $(_gmbench_command_options "$command") ;;
         *) _gmbench_offer $(_gmbench_options "${names[0]}") ;;
     esac
 }

@@ -29,32 +29,37 @@ function __gmbench_behind
     test "$names[1]" = $argv[1] -a (count $names) -eq (math $argv[2] + 1)
 end
 
-# Whether one of these commands follows the key of `do`.
+# A command by itself or after the key of `do`, and the names after it.
+function __gmbench_command
+    set -l names (__gmbench_names)
+    test "$names[1]" != do; or set names $names[3..-1]
+    string join -- \n $names
+end
+
+# Whether this is one of these commands, by itself or after the key of `do`.
 function __gmbench_doing
-    set -l names (__gmbench_names)
-    test "$names[1]" = do; and contains -- "$names[3]" $argv
+    set -l names (__gmbench_command)
+    contains -- "$names[1]" $argv
 end
 
-# Whether a mirror may be named here after the key of `do`.
+# Whether a mirror may be named here, after a command.
 function __gmbench_doing_mirrors
-    set -l names (__gmbench_names)
-    test "$names[1]" = do -a (count $names) -eq 3; or return
-    contains -- "$names[3]" insert remove deactivate activate forget rebuild configure destroy lost advance patch
+    test (count (__gmbench_command)) -eq 1; or return
+    __gmbench_doing insert remove deactivate activate forget rebuild configure destroy lost advance patch
 end
 
-# Whether an image may stand here after the key of `do`.
+# Whether an image may stand here, after a command.
 function __gmbench_doing_images
-    set -l names (__gmbench_names)
-    test "$names[1]" = do; or return
-    switch "$names[3]"
-        case '' forget destroy configure patch
-            false
+    set -l names (__gmbench_command)
+    switch "$names[1]"
         case clear
-            test (count $names) -eq 3
+            test (count $names) -eq 1
         case lost adopt
-            test (count $names) -gt 3
+            test (count $names) -gt 1
+        case label insert remove deactivate activate rebuild advance
+            test (count $names) -eq 2
         case '*'
-            test (count $names) -eq 4
+            false
     end
 end
 
@@ -97,7 +102,31 @@ complete -c gmbench -f
 complete -c gmbench -n 'test (count (__gmbench_names)) -eq 0' -s V -l version -d 'Print the version'
 complete -c gmbench -n 'test (count (__gmbench_names)) -eq 0' -s h -l help -d 'Print help'
 
+# The commands that change mirrors, by themselves and after the key of `do`.
+set -l changes
 set -l line
+for line in 'label:Make a mirror of an image' \
+    'insert:Add an image to a mirror' \
+    'remove:Take a component out of its mirror' \
+    'deactivate:Take a component out of use' \
+    'activate:Take a component back into use' \
+    'forget:Wait no longer for lost components' \
+    'rebuild:Have a component filled anew' \
+    'configure:Set a mirror otherwise' \
+    'clear:Wipe the metadata of an image' \
+    'destroy:Drop a mirror' \
+    'lost:Give up components whose images are gone' \
+    'advance:Copy the next sectors to a component' \
+    'adopt:Register a mirror that is found on images' \
+    'patch:Change sectors of the data'
+    set -l words (string split -m 1 : $line)
+    set -a changes $words[1]
+    complete -c gmbench -n 'test (count (__gmbench_names)) -eq 0' -a $words[1] -d $words[2]
+    complete -c gmbench -n '__gmbench_behind help 0' -a $words[1] -d $words[2]
+    complete -c gmbench -n '__gmbench_behind do 1' -a $words[1] -d $words[2]
+end
+
+# The other subcommands.
 for line in 'dump:Print what the last sector of an image says' \
     'taste:Print which mirrors the images tell of' \
     'pending:Print what a run that stopped left pending' \
@@ -118,7 +147,7 @@ for line in 'dump:Print what the last sector of an image says' \
 end
 
 # The options of subcommands.
-set -l at_bench pending recover status list audit scrub check do batch sync serve
+set -l at_bench pending recover status list audit scrub check do batch sync serve $changes
 complete -c gmbench -n "__gmbench_in dump taste $at_bench" -s h -l help -d 'Print help'
 complete -c gmbench -n "__gmbench_in $at_bench" -l registry -r -F -d 'The registry'
 complete -c gmbench -n "__gmbench_in dump taste $at_bench" -l shelf -x -a '(__fish_complete_directories)' \
@@ -129,11 +158,12 @@ complete -c gmbench -n '__gmbench_in scrub check sync' -l quiet -d 'Do not say h
 complete -c gmbench -n '__gmbench_in check' -l data -d 'Compare the data too'
 complete -c gmbench -n '__gmbench_in batch serve' -l audit -d 'Look at the images before each command'
 complete -c gmbench -n '__gmbench_in batch' -l stop -d 'End at the first line that is refused'
-complete -c gmbench -n '__gmbench_in recover status list audit do batch serve' -l existing -d 'Make no registry'
+complete -c gmbench -n "__gmbench_in recover status list audit do batch serve $changes" -l existing -d 'Make no registry'
 complete -c gmbench -n "__gmbench_in dump taste $at_bench" -l explain -d 'Say what a refusal or a fault means'
 complete -c gmbench -n "__gmbench_in $at_bench" -l wait -x -d 'For how many seconds what is in use is tried again'
-complete -c gmbench -n '__gmbench_in do sync' -l unchecked -d 'Do not look at the images first'
-complete -c gmbench -n '__gmbench_in do' -l force -d 'Carry it out even if data are lost'
+complete -c gmbench -n "__gmbench_in do sync $changes" -l unchecked -d 'Do not look at the images first'
+complete -c gmbench -n "__gmbench_in do $changes" -l force -d 'Carry it out even if data are lost'
+complete -c gmbench -n "__gmbench_in $changes" -l key -x -d 'The key under which it is carried out, once'
 complete -c gmbench -n '__gmbench_in recover' -l without -x -a '(__gmbench_images)' -d 'An image that is gone for good'
 complete -c gmbench -n '__gmbench_in recover' -l key -x -d 'The key under which it is given up'
 complete -c gmbench -n '__gmbench_in serve' -l port -x -d 'The port on 127.0.0.1'
@@ -151,9 +181,7 @@ complete -c gmbench -n '__gmbench_behind dump 0' -a '(__gmbench_images)' -d Imag
 complete -c gmbench -n '__gmbench_behind sync 1' -a '(__gmbench_images)' -d Image
 complete -c gmbench -n __gmbench_doing_images -a '(__gmbench_images)' -d Image
 
-# The commands after the key of `do`, and the options of each.
-complete -c gmbench -n '__gmbench_behind do 1' -d Command \
-    -a 'label insert remove deactivate activate forget rebuild configure clear destroy lost advance adopt patch'
+# The options of each command.
 complete -c gmbench -n '__gmbench_doing label' -l mid -x -d 'The number of the mirror'
 complete -c gmbench -n '__gmbench_doing label insert' -l did -x -d 'The number of the component'
 complete -c gmbench -n '__gmbench_doing label configure' -l balance -x -a 'load prefer round-robin split' \

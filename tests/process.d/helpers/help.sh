@@ -1,8 +1,9 @@
 # What the program's help lists: its subcommands, the commands of a line, and the options of each.
 
-# The subcommands, a line each, and `help` among them.
+# The subcommands, a line each: those of all groups of the help, and `help`.
 subcommands() {
-    "$gmbench" --help | sed -n '/^Commands:/,/^$/s/^  \([a-z]*\) .*/\1/p'
+    "$gmbench" --help | sed -n '1,/^Options:/s/^  \([a-z]*\)  .*/\1/p'
+    echo help
 }
 
 # The long options of the program's own, or of a subcommand, sorted, in a line: `--json --shelf`.

@@ -1,5 +1,6 @@
 # The words that the program is started with, and its help.
 . "$helpers/images.sh"
+. "$helpers/help.sh"
 
 # ---- the program's own words
 
@@ -24,10 +25,6 @@ helps() {
     fi
 }
 
-for about in 'dump     Prints' 'taste    Prints' 'recover  Carries' 'status   Shows' 'list     Shows' 'audit    Lists' 'batch    Carries'; do
-    helps "help names ${about%% *}" "
-  $about"
-done
 helps 'help has the usage' 'Usage: gmbench'
 helps 'help tells the exit statuses' '
 Exit statuses:
@@ -36,14 +33,29 @@ Exit statuses:
 helps 'help has an example' '
 Example:
 '
-for word in dump taste recover status list audit batch; do
+
+# The help is one fixed text: it has each subcommand of the tables once, and says of it what that one's own help says first.
+sed -n 's/^ *name: "\([a-z]*\)",$/\1/p' "$top/crates/gm_command_line/src/table.rt" \
+    "$top/crates/gm_command_line/src/by_itself.rt" | LC_ALL=C sort >"$work/wanted"
+subcommands | grep -vx help | LC_ALL=C sort >"$work/there"
+expect_same 'the help has each subcommand once' "$work/there" "$work/wanted"
+[ "$(wc -l <"$work/there")" = 27 ] && pass 'there are 27 of them' || fail 'there are 27 of them' "$(wc -l <"$work/there")"
+"$gmbench" --help >"$work/help"
+for word in $(subcommands | grep -vx help); do
     run "$word" --help
     if [ "$status" = 0 ] && grep -q "^Usage: gmbench $word" "$work/output" && [ ! -s "$work/complaints" ]; then
         pass "$word has help of its own"
     else
         fail "$word has help of its own" "status $status"
     fi
+    cp "$work/output" "$work/own"
+    about=$(sed -n "1,/^Options:/s/^  $word  *//p" "$work/help")
+    [ -n "$about" ] && [ "$about" = "$(head -n 1 "$work/own")" ] && pass "the help says of $word what its own says" ||
+        fail "the help says of $word what its own says" "'$about', and '$(head -n 1 "$work/own")'"
+    run help "$word"
+    expect "help $word prints the help of $word" 0 "$(cat "$work/own")" ''
 done
+
 run recover --help
 helps 'the help of recover tells how an image is given up' '--without <PROV>'
 run paint

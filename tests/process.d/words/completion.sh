@@ -88,6 +88,24 @@ try_bash() {
     expect_offered 'bash: a folder' "$(in_bash status --registry registry --shelf '')" 'images other'
     expect_offered 'bash: nothing for a number' "$(in_bash serve --port '')" ''
 
+    expect_offered 'bash: a command by itself that is begun' "$(in_bash de)" 'deactivate destroy'
+    expect_offered 'bash: an option of label that is begun' "$(in_bash label --m)" --mid
+    expect_offered 'bash: the mirror of an insert by itself' "$(in_bash insert $registered '')" 'gm0 gm1'
+    expect_offered 'bash: no mirror of a label by itself' "$(in_bash label $registered gm)" ''
+    expect_offered 'bash: the image of a label by itself' "$(in_bash label --shelf images gm0 '')" 'a.img b.img'
+    expect_offered 'bash: the same after options between the names' \
+        "$(in_bash label gm0 --key k1 --shelf images --balance = load '')" 'a.img b.img'
+    expect_offered 'bash: the image of a clear by itself' "$(in_bash clear --shelf images '')" 'a.img b.img'
+    expect_offered 'bash: all images of an adopt by itself' "$(in_bash adopt --shelf images gm0 a.img '')" 'a.img b.img'
+    expect_offered 'bash: no second image of a remove by itself' "$(in_bash remove --shelf images gm0 a.img a)" ''
+    expect_offered 'bash: no image of a forget by itself' "$(in_bash forget --shelf images gm0 a)" ''
+    expect_offered 'bash: the component of a priority, by itself' "$(in_bash configure --shelf images --prov '')" \
+        'a.img b.img'
+    expect_offered 'bash: how reads are shared out, by itself' "$(in_bash label --balance '')" \
+        'load prefer round-robin split'
+    expect_offered 'bash: on and off, by itself' "$(in_bash insert --hardcode '')" 'off on'
+    expect_offered 'bash: nothing for a key' "$(in_bash label --key '')" ''
+
     expect_offered 'bash: the commands of do' "$(in_bash do k1 '')" "$commands"
     expect_offered 'bash: the same behind the options' "$(in_bash do --registry registry --shelf images k1 '')" "$commands"
     expect_offered 'bash: a command that is begun' "$(in_bash do k1 de)" 'deactivate destroy'
@@ -139,7 +157,7 @@ expect_written 'zsh: each subcommand' _gmbench "^        '" ':' "$(subcommands)"
 expect_written 'zsh: each command of do' _gmbench "^        '" ':' "$commands"
 expect_written 'zsh: each option' _gmbench '--' "(=?[[]|}')" "$options"
 expect_written 'fish: each subcommand' gmbench.fish "^(for line in|   ) '" : "$(subcommands)"
-expect_written 'fish: each command of do' gmbench.fish "[' ]" "[' ]" "$commands"
+expect_written 'fish: each command of do' gmbench.fish "^(for line in|   ) '" : "$commands"
 expect_written 'fish: each option' gmbench.fish ' -l ' ' ' "$options"
 
 # What zsh offers after a line that is begun, sorted, in a line.
@@ -165,7 +183,8 @@ else
     done
     for line in 'dump --shelf images' 'dump --shelf=images' 'sync --shelf images gm0' 'recover --shelf images --without' \
         'do --shelf images k1 clear' 'do --shelf images k1 label gm0' 'do --shelf images k1 adopt gm0 a.img' \
-        'do --shelf images k1 configure --prov' 'dump --shelf ~/images'; do
+        'do --shelf images k1 configure --prov' 'dump --shelf ~/images' 'clear --shelf images' 'label --shelf images gm0' \
+        'label gm0 --key k1 --shelf=images' 'adopt --shelf images gm0 a.img' 'configure --shelf images --prov'; do
         expect_offered "zsh: the images behind $line" "$(in_zsh "gmbench $line ")" 'a.img b.img'
     done
     for quoted in 'other/two\ words' "'other/two words'" '"other/two words"'; do
@@ -176,16 +195,20 @@ else
         in_zsh 'gmbench dump b'
     )" b.img
     for line in "scrub $registered" "sync $registered" "do $registered k1 insert" "do $registered k1 lost" \
-        "do $registered k1 patch"; do
+        "do $registered k1 patch" "insert $registered" "lost --key k1 $registered"; do
         expect_offered "zsh: the mirrors behind ${line%% *} ${line##* }" "$(in_zsh "gmbench $line ")" 'gm0 gm1'
     done
     expect_offered 'zsh: no mirror of a label' "$(in_zsh "gmbench do $registered k1 label ")" ''
+    expect_offered 'zsh: no mirror of a label by itself' "$(in_zsh "gmbench label $registered gm")" ''
     expect_offered 'zsh: the mirrors of the environment' "$(
         export GMBENCH_REGISTRY="$mirrored/registry" GMBENCH_SHELF="$mirrored/images"
         in_zsh 'gmbench sync '
     )" 'gm0 gm1'
     expect_same 'zsh: the registry is as it was' "$mirrored/registry" "$work/registry-before"
     expect_offered 'zsh: no image of a forget' "$(in_zsh 'gmbench do --shelf images k1 forget gm0 ')" ''
+    expect_offered 'zsh: no image of a forget by itself' "$(in_zsh 'gmbench forget --shelf images gm0 a')" ''
+    expect_offered 'zsh: nothing for a key' "$(in_zsh 'gmbench label --key ')" ''
+    expect_offered 'zsh: on and off, by itself' "$(in_zsh 'gmbench insert --hardcode ')" 'off on'
     expect_none 'zsh: no name of a file is carried out' "$place/made"
     expect_offered 'zsh: a registry' "$(in_zsh 'gmbench status --registry r')" registry
     expect_offered 'zsh: nothing for a number' "$(in_zsh 'gmbench serve --port ')" ''
@@ -218,11 +241,19 @@ if command -v fish >/dev/null; then
     expect_offered 'fish: all images of an adopt' "$(in_fish 'gmbench do --shelf images k1 adopt gm0 a.img ')" 'a.img b.img'
     expect_offered 'fish: no second image of a remove' "$(in_fish 'gmbench do --shelf images k1 remove gm0 a.img ')" ''
     expect_offered 'fish: no image of a forget' "$(in_fish 'gmbench do --shelf images k1 forget gm0 ')" ''
+    for line in 'clear --shelf images' 'label --shelf images gm0' 'label gm0 --key k1 --shelf=images' \
+        'adopt --shelf images gm0 a.img' 'configure --shelf images --prov'; do
+        expect_offered "fish: the images after $line" "$(in_fish "gmbench $line ")" 'a.img b.img'
+    done
+    expect_offered 'fish: no second image of a remove by itself' "$(in_fish 'gmbench remove --shelf images gm0 a.img ')" ''
+    expect_offered 'fish: no image of a forget by itself' "$(in_fish 'gmbench forget --shelf images gm0 ')" ''
+    expect_offered 'fish: on and off, by itself' "$(in_fish 'gmbench insert --hardcode ')" 'off on'
     expect_offered 'fish: a folder whose name has a space' "$(in_fish 'gmbench dump --shelf other/two\ words ')" c.img
-    for line in "scrub $registered" "sync $registered" "do $registered k1 remove"; do
+    for line in "scrub $registered" "sync $registered" "do $registered k1 remove" "insert $registered"; do
         expect_offered "fish: the mirrors behind ${line%% *} ${line##* }" "$(in_fish "gmbench $line ")" 'gm0 gm1'
     done
     expect_offered 'fish: no mirror of a label' "$(in_fish "gmbench do $registered k1 label ")" ''
+    expect_offered 'fish: no mirror of a label by itself' "$(in_fish "gmbench label $registered ")" ''
     expect_same 'fish: the registry is as it was' "$mirrored/registry" "$work/registry-before"
     expect_none 'fish: no name of a file is carried out' "$place/made"
     expect_offered 'fish: the commands of do' "$(in_fish 'gmbench do k1 ')" "$commands"

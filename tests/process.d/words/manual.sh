@@ -35,7 +35,8 @@ options_in_page() {
 
 # What the synopsis says of a subcommand, and what the list of commands says of one, to the end of its words.
 synopsis_of() {
-    section SYNOPSIS | awk -v wanted="$1" '/^\.Nm/ { there = 0 } $1 == ".Cm" { there = $2 == wanted } there'
+    section SYNOPSIS | awk -v wanted="$1" '/^\.Nm/ { there = 0 }
+        $1 == ".Cm" { for (at = 2; at <= NF; at++) if ($at == wanted) there = 1 } there'
 }
 words_of() {
     section DESCRIPTION | awk -v wanted="$1" '/^\.Ss / { under = /Commands$/ } !under { next }
@@ -47,12 +48,13 @@ expect_options() {
     [ "$2" = "$3" ] && pass "$1" || fail "$1" "the page has '$2', and the help '$3'"
 }
 
+# A command by itself has its own options beside those of its synopsis.
 for word in $(subcommands); do
     [ -n "$(synopsis_of "$word")" ] && pass "the synopsis has $word" || fail "the synopsis has $word" 'it lacks it'
-    section DESCRIPTION | grep -q "^\.It Cm $word$" && pass "what $word does is said" ||
+    section DESCRIPTION | grep -qE "^\.It (Xo )?Cm $word( |\$)" && pass "what $word does is said" ||
         fail "what $word does is said" 'it has no item'
     [ "$word" = help ] ||
-        expect_options "the options of $word" "$(synopsis_of "$word" | options_in_page)" \
+        expect_options "the options of $word" "$({ synopsis_of "$word" && words_of "$word"; } | options_in_page)" \
             "$(options_of "$word" | sed 's/--help *//; s/ $//')"
 done
 command_lines >"$work/commands"
