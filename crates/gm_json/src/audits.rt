@@ -49,18 +49,18 @@ impl Apart {
 }
 
 // Those whose data differ, and those that weren't compared, each in this order.
-pub(crate) fn apart(alloc: Global, flaws: &[Scrubbed]) -> Result<Apart, AllocError>
+pub(crate) fn parted(alloc: Global, flaws: &[Scrubbed]) -> Result<Apart, AllocError>
     ensures differ { IfOk result (λ it. it.differ.items ≡ differing flaws.now) }
     ensures uncompared { IfOk result (λ it. it.uncompared.items ≡ uncompared flaws.now) }
 {
-    let mut apart = Apart {
+    let mut parted = Apart {
         differ: Vec::new(alloc),
         uncompared: Vec::new(alloc),
     };
     for found in flaws {
-        apart.add(found)?;
+        parted.add(found)?;
     }
-    Ok(apart)
+    Ok(parted)
 }
 
 pub(crate) fn name_values(alloc: Global, names: &[Label]) -> Result<Vec<Value>, AllocError>
@@ -112,7 +112,7 @@ pub(crate) fn difference_values(
 fn scrub_value(alloc: Global, flaws: &[Scrubbed]) -> Result<Value, AllocError>
     ensures { IfOk result (λ v. view v ≡ scrub_data flaws.now) }
 {
-    let found = apart(alloc, flaws)?;
+    let found = parted(alloc, flaws)?;
     let differ = difference_values(alloc, &found.differ)?;
     let uncompared = name_values(alloc, &found.uncompared)?;
     json!(in alloc; {"differ": differ, "uncompared": uncompared})

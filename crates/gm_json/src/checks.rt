@@ -5,7 +5,7 @@ ghost use Rattle.std.specs.String.{string_bytes};
 ghost use Rattle.serde_json.specs.View.{items_of, items_view, view};
 ghost use Rattle.gm_json.specs.Checks.{check_data, check_json, unlike_data, usage_data};
 
-use crate::audits::{apart, difference_values, name_values};
+use crate::audits::{difference_values, name_values, parted};
 use crate::mirrors::standing_mirrors;
 use crate::text::text_of;
 use gm_commands::MAX_COMMANDS;
@@ -49,7 +49,7 @@ fn usage_value(alloc: Global, found: &Checkup<'_>) -> Result<Value, AllocError>
 fn check_value(alloc: Global, found: &Checkup<'_>) -> Result<Value, AllocError>
     ensures { IfOk result (λ v. view v ≡ check_data found.now) }
 {
-    let flaws = apart(alloc, &found.amiss.flaws)?;
+    let flaws = parted(alloc, &found.amiss.flaws)?;
     let amiss = unlike_values(alloc, &found.amiss.unlike)?;
     let differ = difference_values(alloc, &flaws.differ)?;
     let mirrors = standing_mirrors(alloc, found.state)?;

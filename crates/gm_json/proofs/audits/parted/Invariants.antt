@@ -1,0 +1,8 @@
+use Rattle.std.proofs.Common.{◌≡◌, flat_map, take}
+use Rattle.gm_json.specs.Audits.{difference_of, uncompared_of}
+use Rattle.gm_json.proofs.audits.parted.Given as goal
+
+abbrev pub invariant-loop-found : goal.invariant-loop-found
+invariant-loop-found l =
+    (l.parted.differ.items ≡ flat_map difference_of (take l.found-index l.flaws))
+    × (l.parted.uncompared.items ≡ flat_map uncompared_of (take l.found-index l.flaws))
