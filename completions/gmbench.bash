@@ -145,6 +145,7 @@ _gmbench() {
         ,0) _gmbench_offer --help --version ;;
         do,2) ;;
         do,[3-9] | do,??*) _gmbench_offer $(_gmbench_command_options "$command") ;;
+        adopt,*) _gmbench_offer --all $(_gmbench_options by-itself) ;;
         "$command",*) _gmbench_offer $(_gmbench_options by-itself) $(_gmbench_command_options "$command") ;;
         *) _gmbench_offer $(_gmbench_options "${names[0]}") ;;
     esac

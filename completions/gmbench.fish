@@ -163,6 +163,7 @@ complete -c gmbench -n "__gmbench_in dump taste $at_bench" -l explain -d 'Say wh
 complete -c gmbench -n "__gmbench_in $at_bench" -l wait -x -d 'For how many seconds what is in use is tried again'
 complete -c gmbench -n "__gmbench_in do sync $changes" -l unchecked -d 'Do not look at the images first'
 complete -c gmbench -n "__gmbench_in do $changes" -l force -d 'Carry it out even if data are lost'
+complete -c gmbench -n '__gmbench_in adopt' -l all -d 'Adopt each mirror that is whole'
 complete -c gmbench -n "__gmbench_in $changes" -l key -x -d 'The key under which it is carried out, once'
 complete -c gmbench -n '__gmbench_in recover' -l without -x -a '(__gmbench_images)' -d 'An image that is gone for good'
 complete -c gmbench -n '__gmbench_in recover' -l key -x -d 'The key under which it is given up'
