@@ -50,11 +50,11 @@ scrub_none flaws =
 
 pub check_none : (c : Checkup) → has_float (check_data c) ≡ false
 check_none c =
-    rw (none_of_each unlike_data c.amiss.now.unlike.items (λ x. refl))
-    (rw (none_of_each difference_data (differing c.amiss.now.flaws.items) (λ d. refl))
+    rw (none_of_each unlike_data c.unlike.now (λ x. refl))
+    (rw (none_of_each difference_data (differing c.flaws.now) (λ d. refl))
     (rw (none_of_each (λ m. standing_mirror m (members c.state.now.components m.name))
     c.state.now.mirrors (λ m. standing_mirror_none m (members c.state.now.components m.name)))
-    (rw (none_of_each string (uncompared c.amiss.now.flaws.items) (λ name. refl)))))
+    (rw (none_of_each string (uncompared c.flaws.now) (λ name. refl)))))
 
 tasted_with_none : (filled : Option ℕ) (x : Member) → has_float (tasted_with filled x) ≡ false
 tasted_with_none None x = refl

@@ -30,13 +30,13 @@ usage_data c = object_of (
 -- what a check found
 abbrev pub check_data : Checkup → Data
 check_data c = object_of (
-    each_at (codes "amiss") unlike_data c.amiss.now.unlike.items
-    ∷ each_at (codes "differ") difference_data (differing c.amiss.now.flaws.items)
+    each_at (codes "amiss") unlike_data c.unlike.now
+    ∷ each_at (codes "differ") difference_data (differing c.flaws.now)
     ∷ each_at (codes "mirrors")
     (λ m. standing_mirror m (members c.state.now.components m.name)) c.state.now.mirrors
     ∷ number_at (codes "pending") c.pending
     ∷ record { key = codes "registry"; value = usage_data c }
-    ∷ texts_at (codes "uncompared") (uncompared c.amiss.now.flaws.items)
+    ∷ texts_at (codes "uncompared") (uncompared c.flaws.now)
     ∷ truth_at (codes "well") (is_well c)
     ∷ [])
 

@@ -49,7 +49,7 @@ impl Apart {
 }
 
 // Those whose data differ, and those that weren't compared, each in this order.
-pub(crate) fn parted(alloc: Global, flaws: &[Scrubbed]) -> Result<Apart, AllocError>
+fn parted(alloc: Global, flaws: &[Scrubbed]) -> Result<Apart, AllocError>
     ensures differ { IfOk result (λ it. it.differ.items ≡ differing flaws.now) }
     ensures uncompared { IfOk result (λ it. it.uncompared.items ≡ uncompared flaws.now) }
 {
@@ -63,7 +63,7 @@ pub(crate) fn parted(alloc: Global, flaws: &[Scrubbed]) -> Result<Apart, AllocEr
     Ok(parted)
 }
 
-pub(crate) fn name_values(alloc: Global, names: &[Label]) -> Result<Vec<Value>, AllocError>
+fn name_values(alloc: Global, names: &[Label]) -> Result<Vec<Value>, AllocError>
     ensures { IfOk result (λ vs. items_view vs.items ≡ items_of (map string names.now)) }
 {
     let mut values = Vec::new(alloc);
@@ -96,10 +96,7 @@ fn difference_value(alloc: Global, difference: &Difference) -> Result<Value, All
     json!(in alloc; {"first": first, "name": name, "sectors": sectors})
 }
 
-pub(crate) fn difference_values(
-    alloc: Global,
-    differ: &[Difference],
-) -> Result<Vec<Value>, AllocError>
+fn difference_values(alloc: Global, differ: &[Difference]) -> Result<Vec<Value>, AllocError>
     ensures { IfOk result (λ vs. items_view vs.items ≡ items_of (map difference_data differ.now)) }
 {
     let mut values = Vec::new(alloc);
@@ -109,12 +106,27 @@ pub(crate) fn difference_values(
     Ok(values)
 }
 
+// Those whose data differ.
+pub(crate) fn differing_values(alloc: Global, flaws: &[Scrubbed]) -> Result<Vec<Value>, AllocError>
+    ensures { IfOk result (λ vs. items_view vs.items
+        ≡ items_of (map difference_data (differing flaws.now))) }
+{
+    difference_values(alloc, &parted(alloc, flaws)?.differ)
+}
+
+// The names of those that weren't compared.
+pub(crate) fn uncompared_values(alloc: Global, flaws: &[Scrubbed]) -> Result<Vec<Value>, AllocError>
+    ensures { IfOk result (λ vs. items_view vs.items
+        ≡ items_of (map string (uncompared flaws.now))) }
+{
+    name_values(alloc, &parted(alloc, flaws)?.uncompared)
+}
+
 fn scrub_value(alloc: Global, flaws: &[Scrubbed]) -> Result<Value, AllocError>
     ensures { IfOk result (λ v. view v ≡ scrub_data flaws.now) }
 {
-    let found = parted(alloc, flaws)?;
-    let differ = difference_values(alloc, &found.differ)?;
-    let uncompared = name_values(alloc, &found.uncompared)?;
+    let differ = differing_values(alloc, flaws)?;
+    let uncompared = uncompared_values(alloc, flaws)?;
     json!(in alloc; {"differ": differ, "uncompared": uncompared})
 }
 

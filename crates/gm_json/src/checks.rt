@@ -5,7 +5,7 @@ ghost use Rattle.std.specs.String.{string_bytes};
 ghost use Rattle.serde_json.specs.View.{items_of, items_view, view};
 ghost use Rattle.gm_json.specs.Checks.{check_data, check_json, unlike_data, usage_data};
 
-use crate::audits::{difference_values, name_values, parted};
+use crate::audits::{differing_values, uncompared_values};
 use crate::mirrors::standing_mirrors;
 use crate::text::text_of;
 use gm_commands::MAX_COMMANDS;
@@ -49,12 +49,11 @@ fn usage_value(alloc: Global, found: &Checkup<'_>) -> Result<Value, AllocError>
 fn check_value(alloc: Global, found: &Checkup<'_>) -> Result<Value, AllocError>
     ensures { IfOk result (λ v. view v ≡ check_data found.now) }
 {
-    let flaws = parted(alloc, &found.amiss.flaws)?;
-    let amiss = unlike_values(alloc, &found.amiss.unlike)?;
-    let differ = difference_values(alloc, &flaws.differ)?;
+    let amiss = unlike_values(alloc, found.unlike)?;
+    let differ = differing_values(alloc, found.flaws)?;
     let mirrors = standing_mirrors(alloc, found.state)?;
     let registry = usage_value(alloc, found)?;
-    let uncompared = name_values(alloc, &flaws.uncompared)?;
+    let uncompared = uncompared_values(alloc, found.flaws)?;
     json!(in alloc; {
         "amiss": amiss,
         "differ": differ,

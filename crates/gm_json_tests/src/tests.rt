@@ -9,7 +9,7 @@ use gm_metadata::{Balance, DecodeFault, DiskFlags, Label, Metadata, MirrorFlags}
 use gm_shelf::{NoImage, PassedOver};
 use gm_state::{Component, Disk, Mirror, Reply, State, metadata};
 use gm_taste::{Group, LeftOut, Member, MemberState, Reason, Tasted};
-use gm_unlike::{Amiss, Checkup};
+use gm_unlike::Checkup;
 use std::alloc::AllocError;
 use std::process::Abort;
 
@@ -303,15 +303,11 @@ fn what_a_check_found_is_told(rt: HostRuntime) {
         provider: b,
         standing: Standing::Absent,
     }];
-    let amiss = Amiss {
-        unlike: unlike.to_vec(rt.alloc()).expect(&rt, "no memory"),
-        flaws: [uncompared(b), differs(c, 3, 17)]
-            .to_vec(rt.alloc())
-            .expect(&rt, "no memory"),
-    };
+    let flaws = [uncompared(b), differs(c, 3, 17)];
     let found = Checkup {
         state: &state,
-        amiss: &amiss,
+        unlike: &unlike,
+        flaws: &flaws,
         pending: 2,
         commands: 17,
         bytes: 45_056,

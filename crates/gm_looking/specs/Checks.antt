@@ -9,9 +9,9 @@ use Rattle.gm_looks.specs.Unlikes.{IsUnlike}
 use Rattle.gm_looks.specs.declared.scrub.Flaw.{Flaw}
 use Rattle.gm_looks.specs.declared.scrub.Flaw.TheVariants.{Uncompared, Differs}
 use Rattle.gm_looks.specs.declared.scrub.Scrubbed.{Scrubbed}
+use Rattle.gm_looks.specs.declared.unlike.Unlike.{Unlike}
 use Rattle.gm_unlike.specs.Checkups.{is_any, is_well}
 use Rattle.gm_unlike.specs.Texts.{unlike_line}
-use Rattle.gm_unlike.specs.declared.checkup.Amiss.{Amiss}
 use Rattle.gm_unlike.specs.declared.checkup.Checkup.{Checkup}
 use Rattle.gm_json.specs.Audits.{scrub_json}
 use Rattle.gm_json.specs.Checks.{check_json}
@@ -72,8 +72,8 @@ verdict well = if well then codes "all is well\n" else codes "not all is well\n"
 -- how the mirrors stand, what is amiss, and how much of the registry is used
 abbrev pub check_text : Checkup → List ℕ
 check_text c =
-    status_text c.state.now ++ flat_map unlike_line c.amiss.now.unlike.items
-    ++ flat_map flaw_line c.amiss.now.flaws.items
+    status_text c.state.now ++ flat_map unlike_line c.unlike.now
+    ++ flat_map flaw_line c.flaws.now
     ++ pending_lines c.pending ++ usage_line c ++ verdict (is_well c)
 
 -- the text of a check, as lines or as JSON
@@ -97,18 +97,18 @@ pub record IsScrubReport (flaws : List Scrubbed) (form : Form) (report : Report)
   pub text : string_bytes report.text ≡ scrub_form flaws form
 
 -- what is amiss of these images: how they stand, and if that is asked for their data
-pub record IsAmissOf (checking : Checking) (s : Records) (size : Sizes) (seen : Image)
-    (amiss : Amiss) : Type 0 where
-  pub unlike : IsUnlike is_any s size seen amiss.unlike.items
-  pub compared : checking.compares ≡ true → IsScrub s size seen None amiss.flaws.items
-  pub unasked : checking.compares ≡ false → amiss.flaws.items ≡ []
+pub record AreAmiss (checking : Checking) (s : Records) (size : Sizes) (seen : Image)
+    (unlike : List Unlike) (flaws : List Scrubbed) : Type 0 where
+  pub unlike : IsUnlike is_any s size seen unlike
+  pub compared : checking.compares ≡ true → IsScrub s size seen None flaws
+  pub unasked : checking.compares ≡ false → flaws ≡ []
 
 -- a report of these records, and of these images
 pub record IsCheckOf (checking : Checking) (whole : Whole) (bytes : ℕ) (size : Sizes)
     (seen : Image) (report : Report) : Type 0 where
   pub found : Checkup
   pub state : found.state.now ≡ whole.loaded.state
-  pub amiss : IsAmissOf checking whole.loaded.state size seen found.amiss.now
+  pub amiss : AreAmiss checking whole.loaded.state size seen found.unlike.now found.flaws.now
   pub pending : found.pending ≡ length whole.loaded.intents.items
   pub commands : found.commands ≡ whole.accepted
   pub bytes : found.bytes ≡ bytes

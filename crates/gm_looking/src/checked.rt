@@ -62,8 +62,8 @@ fn check_text(alloc: Global, found: &Checkup<'_>) -> Result<String, AllocError>
     ensures { IfOk result (λ text. string_bytes text ≡ check_text found.now) }
 {
     let mut text = status_text(alloc, found.state)?;
-    text.push_str(&unlike_lines(alloc, &found.amiss.unlike)?)?;
-    text.push_str(&flaws_text(alloc, &found.amiss.flaws)?)?;
+    text.push_str(&unlike_lines(alloc, found.unlike)?)?;
+    text.push_str(&flaws_text(alloc, found.flaws)?)?;
     push_pending(&mut text, found.pending)?;
     push_usage(&mut text, found)?;
     text.push_str(verdict(found.is_well()))?;

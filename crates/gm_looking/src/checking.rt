@@ -3,7 +3,7 @@
 
 ghost use Rattle.std.specs.Prelude.{IfOk};
 ghost use Rattle.gm_process.specs.Statuses.{MayRefuse};
-ghost use Rattle.gm_looking.specs.Checks.{IsAmissOf, IsCheckOf};
+ghost use Rattle.gm_looking.specs.Checks.{AreAmiss, IsCheckOf};
 
 use crate::checked::check_report;
 use crate::read_only::{hold, images_at, records_at};
@@ -25,8 +25,8 @@ fn amiss_of<H: Shelf, I, O, E: Write>(
     shelf: &mut H,
     streams: &mut Streams<'_, I, O, E>,
 ) -> Result<Amiss, Fault>
-    ensures { H.honest shelf.old → IfOk result (IsAmissOf checking state.now
-        (H.size shelf.old) (H.view shelf.old).seen) }
+    ensures { H.honest shelf.old → IfOk result (λ amiss. AreAmiss checking state.now
+        (H.size shelf.old) (H.view shelf.old).seen amiss.unlike.items amiss.flaws.items) }
 {
     let style = streams
         .explaining
@@ -55,7 +55,8 @@ pub fn check_shelf<H: Shelf, I, O, E: Write>(
     let amiss = amiss_of(rt, checking, &records.state, shelf, streams)?;
     let found = Checkup {
         state: &records.state,
-        amiss: &amiss,
+        unlike: &amiss.unlike,
+        flaws: &amiss.flaws,
         pending: records.intents.len(),
         commands: whole.accepted,
         bytes,

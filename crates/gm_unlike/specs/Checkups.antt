@@ -24,6 +24,5 @@ is_complete_in s m = is_complete (state_among m (members s.components m.name))
 -- nothing is pending, each image is as it is registered and has its mirror's data, as far as they
 -- were compared, and each mirror is COMPLETE
 abbrev pub is_well : Checkup → Bool
-is_well c = (c.pending == 0) && ((length c.amiss.now.unlike.items == 0)
-    && ((length c.amiss.now.flaws.items == 0)
+is_well c = (c.pending == 0) && ((length c.unlike.now == 0) && ((length c.flaws.now == 0)
     && list_all (is_complete_in c.state.now) c.state.now.mirrors))

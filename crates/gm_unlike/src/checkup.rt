@@ -26,7 +26,8 @@ pub struct Amiss {
 #[derive(Clone, Copy)]
 pub struct Checkup<'a> {
     pub state: &'a State,
-    pub amiss: &'a Amiss,
+    pub unlike: &'a [Unlike],
+    pub flaws: &'a [Scrubbed],
     /// How many writes are pending.
     pub pending: usize,
     /// How many commands were accepted.
@@ -58,8 +59,8 @@ impl Checkup<'_> {
         ensures { result ≡ is_well self.now }
     {
         self.pending == 0
-            && self.amiss.unlike.is_empty()
-            && self.amiss.flaws.is_empty()
+            && self.unlike.is_empty()
+            && self.flaws.is_empty()
             && are_complete_in(self.state, self.state.mirrors())
     }
 }
