@@ -98,18 +98,18 @@ pub record IsScrubReport (flaws : List Scrubbed) (form : Form) (report : Report)
 
 -- what is amiss of these images: how they stand, and if that is asked for their data
 pub record AreAmiss (checking : Checking) (s : Records) (size : Sizes) (seen : Image)
-    (unlike : List Unlike) (flaws : List Scrubbed) : Type 0 where
-  pub unlike : IsUnlike is_any s size seen unlike
-  pub compared : checking.compares ≡ true → IsScrub s size seen None flaws
-  pub unasked : checking.compares ≡ false → flaws ≡ []
+    (images : List Unlike) (data : List Scrubbed) : Type 0 where
+  pub unlike : IsUnlike is_any s size seen images
+  pub compared : checking.compares ≡ true → IsScrub s size seen None data
+  pub unasked : checking.compares ≡ false → data ≡ []
 
 -- a report of these records, and of these images
-pub record IsCheckOf (checking : Checking) (whole : Whole) (bytes : ℕ) (size : Sizes)
+pub record IsCheckOf (checking : Checking) (whole : Whole) (long : ℕ) (size : Sizes)
     (seen : Image) (report : Report) : Type 0 where
   pub found : Checkup
   pub state : found.state.now ≡ whole.loaded.state
   pub amiss : AreAmiss checking whole.loaded.state size seen found.unlike.now found.flaws.now
   pub pending : found.pending ≡ length whole.loaded.intents.items
   pub commands : found.commands ≡ whole.accepted
-  pub bytes : found.bytes ≡ bytes
+  pub bytes : found.bytes ≡ long
   pub told : IsChecked found checking.form report
