@@ -67,7 +67,7 @@ fn all_of(group: &Group) -> Option<u8> {
 }
 
 // Why a mirror of these is left, if it is.
-fn left(groups: &[Group], group: &Group) -> Option<Left> {
+fn left_because(groups: &[Group], group: &Group) -> Option<Left> {
     let same = groups
         .iter()
         .filter(|other| other.name == group.name)
@@ -157,7 +157,7 @@ fn adopt_or_leave<S: Alter, H: Shelf, I: BufRead, O: Write, E: Write>(
     if is_registered(&state, group) {
         return Ok(Status::Done);
     }
-    match left(groups, group) {
+    match left_because(groups, group) {
         Some(why) => {
             say_left(streams.output, group.name, why)?;
             Ok(Status::Refused)

@@ -98,10 +98,10 @@ pub record IsScrubReport (flaws : List Scrubbed) (form : Form) (report : Report)
 
 -- what is amiss of these images: how they stand, and if that is asked for their data
 pub record AreAmiss (checking : Checking) (s : Records) (size : Sizes) (seen : Image)
-    (images : List Unlike) (data : List Scrubbed) : Type 0 where
-  pub unlike : IsUnlike is_any s size seen images
-  pub compared : checking.compares ≡ true → IsScrub s size seen None data
-  pub unasked : checking.compares ≡ false → data ≡ []
+    (others : List Unlike) (apart : List Scrubbed) : Type 0 where
+  pub unlike : IsUnlike is_any s size seen others
+  pub compared : checking.compares ≡ true → IsScrub s size seen None apart
+  pub unasked : checking.compares ≡ false → apart ≡ []
 
 -- a report of these records, and of these images
 pub record IsCheckOf (checking : Checking) (whole : Whole) (long : ℕ) (size : Sizes)
