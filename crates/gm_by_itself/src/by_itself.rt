@@ -29,12 +29,13 @@ fn text_of(alloc: Global, number: Option<u32>) -> Result<Option<String>, AllocEr
 // Appends an option with its value, if there is one.
 fn push_option<'a>(
     words: &mut Vec<&'a str>,
-    option: &'static str,
+    option: &'a str,
     value: &'a Option<String>,
 ) -> Result<(), AllocError> {
     if let Some(value) = value {
+        let text = value.as_str();
         words.push(option)?;
-        words.push(value.as_str())?;
+        words.push(text)?;
     }
     Ok(())
 }
