@@ -93,7 +93,10 @@ fn run<I: BufRead, O: Write, E: Write>(
     let environment = Environment::find(rt)?;
     let done = match asked_of(rt.alloc(), words, environment.settings()) {
         Ok(Reading::Asked(asked)) => perform(rt, &asked, streams),
-        Ok(Reading::Handed(handed)) => perform(rt, &handed.asked(), streams),
+        Ok(Reading::Handed(handed)) => {
+            let asked = handed.asked();
+            perform(rt, &asked, streams)
+        }
         Err(error) => print_error(&error, streams.output, streams.complaints),
     };
     // What was printed before a fault is to be seen as well.
