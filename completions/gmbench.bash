@@ -4,16 +4,18 @@
 _gmbench_options() {
     case $1 in
         dump | taste) echo --shelf --json --explain --help ;;
-        pending) echo --registry --shelf --explain --wait --help ;;
-        recover) echo --registry --shelf --existing --explain --wait --without --key --help ;;
+        pending) echo --registry --shelf --explain --wait --json --help ;;
+        recover) echo --registry --shelf --existing --explain --wait --json --without --key --help ;;
         status | list | audit) echo --registry --shelf --existing --explain --wait --json --read-only --help ;;
         scrub) echo --registry --shelf --explain --wait --json --quiet --help ;;
         check) echo --registry --shelf --explain --wait --data --json --quiet --help ;;
-        do) echo --registry --shelf --existing --explain --wait --unchecked --force --help ;;
+        do) echo --registry --shelf --existing --explain --wait --json --unchecked --force --help ;;
         batch) echo --registry --shelf --existing --explain --wait --audit --stop --help ;;
-        sync) echo --registry --shelf --explain --wait --unchecked --quiet --help ;;
+        replace) echo --registry --shelf --explain --wait --unchecked --force --quiet --key --help ;;
+        write) echo --registry --shelf --explain --wait --unchecked --force --quiet --key --first --file --help ;;
+        sync) echo --registry --shelf --explain --wait --json --unchecked --quiet --help ;;
         serve) echo --registry --shelf --existing --explain --wait --port --count --log --audit --any-origin --help ;;
-        by-itself) echo --registry --shelf --existing --explain --wait --unchecked --force --key --help ;;
+        by-itself) echo --registry --shelf --existing --explain --wait --json --unchecked --force --key --help ;;
     esac
 }
 
@@ -89,7 +91,7 @@ _gmbench_offer_names() {
 
 _gmbench() {
     local commands='label insert remove deactivate activate forget rebuild configure clear destroy lost advance adopt patch'
-    local subcommands="$commands dump taste pending recover status list audit scrub check do batch sync serve help"
+    local subcommands="$commands dump taste pending recover status list audit scrub check do batch replace write sync serve help"
     local command='' named=0
     local word=${COMP_WORDS[COMP_CWORD]} registry=${GMBENCH_REGISTRY-} shelf=${GMBENCH_SHELF-} option='' names=() before
     COMPREPLY=()
@@ -108,7 +110,9 @@ _gmbench() {
         fi
         case $before in
             --registry | --shelf | --wait | --without | --key | --port | --count | --mid | --did | --balance | --slice | \
-                --autosync | --failsync | --hardcode | --priority | --prov | --first | --data) option=$before ;;
+                --autosync | --failsync | --hardcode | --priority | --prov | --first | --file) option=$before ;;
+            # Of `check` it has no value.
+            --data) [[ ${names[0]-} = check ]] || option=$before ;;
             -*) ;;
             *) names+=("$before") ;;
         esac
@@ -123,7 +127,7 @@ _gmbench() {
     fi
 
     case $option in
-        --registry) _gmbench_offer_paths -f ;;
+        --registry | --file) _gmbench_offer_paths -f ;;
         --shelf) _gmbench_offer_paths -d ;;
         --without | --prov) _gmbench_offer_images ;;
         --balance) _gmbench_offer load prefer round-robin split ;;
@@ -135,8 +139,8 @@ _gmbench() {
         case ${names[0]-},${#names[@]} in
             ,0 | help,1) _gmbench_offer $subcommands ;;
             do,2) _gmbench_offer $commands ;;
-            scrub,1 | sync,1) _gmbench_offer_mirrors ;;
-            dump,1 | sync,2) _gmbench_offer_images ;;
+            scrub,1 | sync,1 | replace,1 | write,1) _gmbench_offer_mirrors ;;
+            dump,1 | sync,2 | replace,[23]) _gmbench_offer_images ;;
             *) _gmbench_offer_names "$command" "$named" ;;
         esac
         [[ ${#COMPREPLY[@]} = 0 ]] || return

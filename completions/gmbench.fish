@@ -3,14 +3,19 @@
 # The words before the cursor that are names, the subcommand first.
 function __gmbench_names
     set -l valued --registry --shelf --wait --without --key --port --count --mid --did --balance --slice --autosync --failsync \
-        --hardcode --priority --prov --first --data
+        --hardcode --priority --prov --first --file
+    set -l subcommand
     set -l wants no
     for word in (commandline -opc)[2..-1]
         if test $wants = yes
             set wants no
         else if contains -- $word $valued
             set wants yes
+        else if test "$word" = --data
+            # Of `check` it has no value.
+            test "$subcommand" = check; or set wants yes
         else if not string match -q -- '-*' $word
+            test -n "$subcommand"; or set subcommand $word
             echo $word
         end
     end
@@ -138,6 +143,8 @@ for line in 'dump:Print what the last sector of an image says' \
     'check:Say whether all is well' \
     'do:Carry out one command' \
     'batch:Carry out the commands of standard input' \
+    'replace:Put an image in the place of another' \
+    'write:Write the data of a file into a mirror' \
     'sync:Fill the components that are SYNCHRONIZING' \
     'serve:Answer requests over HTTP' \
     'help:Print help'
@@ -147,24 +154,27 @@ for line in 'dump:Print what the last sector of an image says' \
 end
 
 # The options of subcommands.
-set -l at_bench pending recover status list audit scrub check do batch sync serve $changes
+set -l at_bench pending recover status list audit scrub check do batch replace write sync serve $changes
 complete -c gmbench -n "__gmbench_in dump taste $at_bench" -s h -l help -d 'Print help'
 complete -c gmbench -n "__gmbench_in $at_bench" -l registry -r -F -d 'The registry'
 complete -c gmbench -n "__gmbench_in dump taste $at_bench" -l shelf -x -a '(__fish_complete_directories)' \
     -d 'The folder with the images'
-complete -c gmbench -n '__gmbench_in dump taste status list audit scrub check' -l json -d 'Print JSON'
+complete -c gmbench -n "__gmbench_in dump taste pending recover status list audit scrub check do sync $changes" -l json -d 'Print JSON'
 complete -c gmbench -n '__gmbench_in status list audit' -l read-only -d 'Carry out nothing, and write nothing'
-complete -c gmbench -n '__gmbench_in scrub check sync' -l quiet -d 'Do not say how far it is'
+complete -c gmbench -n '__gmbench_in scrub check replace write sync' -l quiet -d 'Do not say how far it is'
 complete -c gmbench -n '__gmbench_in check' -l data -d 'Compare the data too'
 complete -c gmbench -n '__gmbench_in batch serve' -l audit -d 'Look at the images before each command'
 complete -c gmbench -n '__gmbench_in batch' -l stop -d 'End at the first line that is refused'
 complete -c gmbench -n "__gmbench_in recover status list audit do batch serve $changes" -l existing -d 'Make no registry'
 complete -c gmbench -n "__gmbench_in dump taste $at_bench" -l explain -d 'Say what a refusal or a fault means'
 complete -c gmbench -n "__gmbench_in $at_bench" -l wait -x -d 'For how many seconds what is in use is tried again'
-complete -c gmbench -n "__gmbench_in do sync $changes" -l unchecked -d 'Do not look at the images first'
-complete -c gmbench -n "__gmbench_in do $changes" -l force -d 'Carry it out even if data are lost'
+complete -c gmbench -n "__gmbench_in do replace write sync $changes" -l unchecked -d 'Do not look at the images first'
+complete -c gmbench -n "__gmbench_in do replace write $changes" -l force -d 'Carry it out even if data are lost'
 complete -c gmbench -n '__gmbench_in adopt' -l all -d 'Adopt each mirror that is whole'
 complete -c gmbench -n "__gmbench_in $changes" -l key -x -d 'The key under which it is carried out, once'
+complete -c gmbench -n '__gmbench_in replace write' -l key -x -d 'The key of its first command'
+complete -c gmbench -n '__gmbench_in write' -l first -x -d 'The first sector that is written'
+complete -c gmbench -n '__gmbench_in write' -l file -r -F -d 'The file with the data'
 complete -c gmbench -n '__gmbench_in recover' -l without -x -a '(__gmbench_images)' -d 'An image that is gone for good'
 complete -c gmbench -n '__gmbench_in recover' -l key -x -d 'The key under which it is given up'
 complete -c gmbench -n '__gmbench_in serve' -l port -x -d 'The port on 127.0.0.1'
@@ -175,11 +185,15 @@ complete -c gmbench -n '__gmbench_in serve' -l any-origin -d 'Answer web pages t
 # Mirrors, if a subcommand wants one.
 complete -c gmbench -n '__gmbench_behind scrub 0' -a '(__gmbench_mirrors)' -d Mirror
 complete -c gmbench -n '__gmbench_behind sync 0' -a '(__gmbench_mirrors)' -d Mirror
+complete -c gmbench -n '__gmbench_behind replace 0' -a '(__gmbench_mirrors)' -d Mirror
+complete -c gmbench -n '__gmbench_behind write 0' -a '(__gmbench_mirrors)' -d Mirror
 complete -c gmbench -n __gmbench_doing_mirrors -a '(__gmbench_mirrors)' -d Mirror
 
 # Images, if a subcommand wants one.
 complete -c gmbench -n '__gmbench_behind dump 0' -a '(__gmbench_images)' -d Image
 complete -c gmbench -n '__gmbench_behind sync 1' -a '(__gmbench_images)' -d Image
+complete -c gmbench -n '__gmbench_behind replace 1' -a '(__gmbench_images)' -d Image
+complete -c gmbench -n '__gmbench_behind replace 2' -a '(__gmbench_images)' -d Image
 complete -c gmbench -n __gmbench_doing_images -a '(__gmbench_images)' -d Image
 
 # The options of each command.

@@ -7,8 +7,8 @@ ghost use Rattle.gm_bench.specs.Phases.{TakesCommands};
 ghost use Rattle.gm_process.specs.Statuses.{MayRefuse};
 
 use crate::by_itself::hand_in_by_itself;
-use gm_bench::{Bench, Phase};
-use gm_command_line::{Checks, Single, Unnumbered};
+use gm_bench::{Bench, BenchFault, Phase};
+use gm_command_line::{Checks, Form, Single, Unnumbered};
 use gm_faults::Fault;
 use gm_looks::taste_shelf;
 use gm_metadata::Label;
@@ -137,6 +137,7 @@ fn adopt<S: Alter, H: Shelf, I: BufRead, O: Write, E: Write>(
             component: false,
         },
         checks,
+        form: Form::Text,
     };
     hand_in_by_itself(rt, single, bench, streams)
 }
@@ -181,7 +182,7 @@ pub fn adopt_all<S: Alter, H: Shelf, I: BufRead, O: Write, E: Write>(
     let mut refused = false;
     for group in groups {
         if !matches!(bench.phase(), Phase::Ready) {
-            break;
+            return Err(Fault::Bench(BenchFault::Closed));
         }
         let status = adopt_or_leave(rt, groups, group, checks, bench, streams)?;
         refused |= status == Status::Refused;

@@ -1,17 +1,17 @@
 //! A command by itself. It is handed in as `do` does, under a key of gmbench's own if it was given
 //! none, and with numbers of gmbench's own in place of those that it wasn't given.
 
-ghost use Rattle.std.specs.Prelude.{◌≡◌, IfOk};
+ghost use Rattle.std.specs.Prelude.{◌≡◌, IfOk, OnOk};
 ghost use Rattle.gm_bench.specs.Benches.{progress_of};
 ghost use Rattle.gm_bench.specs.Phases.{TakesCommands};
 ghost use Rattle.gm_process.specs.Statuses.{MayRefuse};
 
-use crate::own_key::own_key;
+use crate::keys::own_key;
 use crate::own_numbers::{Numbers, own_numbers};
 use gm_bench::Bench;
 use gm_command_line::Single;
 use gm_faults::Fault;
-use gm_handing_in::hand_in_one;
+use gm_handing_in::{One, hand_in_one};
 use gm_process::{Status, Streams};
 use gm_shelf::Shelf;
 use sqlite::Alter;
@@ -83,7 +83,8 @@ fn hand_in_under<S: Alter, H: Shelf, I: BufRead, O: Write, E: Write>(
     streams: &mut Streams<'_, I, O, E>,
 ) -> Result<Status, Fault>
     requires { TakesCommands (progress_of bench.old) }
-    ensures { IfOk result MayRefuse }
+    ensures ends { IfOk result MayRefuse }
+    ensures phase { OnOk result (TakesCommands (progress_of bench.new)) }
 {
     let alloc = rt.alloc();
     let numbers = own_numbers(rt, key, single, bench, streams)?;
@@ -91,7 +92,13 @@ fn hand_in_under<S: Alter, H: Shelf, I: BufRead, O: Write, E: Write>(
     let mid = text_of(alloc, numbers.mid)?;
     let did = text_of(alloc, numbers.did)?;
     let words = with_numbers(alloc, single.words, &mid, &did)?;
-    hand_in_one(rt, key, &words, single.checks, bench, streams)
+    let one = One {
+        key,
+        words: &words,
+        checks: single.checks,
+        form: single.form,
+    };
+    hand_in_one(rt, one, bench, streams)
 }
 
 /// Hands in a command by itself, and prints what it came to.
@@ -102,16 +109,12 @@ pub fn hand_in_by_itself<S: Alter, H: Shelf, I: BufRead, O: Write, E: Write>(
     streams: &mut Streams<'_, I, O, E>,
 ) -> Result<Status, Fault>
     requires { TakesCommands (progress_of bench.old) }
-    ensures { IfOk result MayRefuse }
+    ensures ends { IfOk result MayRefuse }
+    ensures phase { OnOk result (TakesCommands (progress_of bench.new)) }
 {
     if let Some(key) = single.key {
         return hand_in_under(rt, key, single, bench, streams);
     }
-    match own_key(rt.alloc(), bench)? {
-        Some(key) => hand_in_under(rt, key.as_str(), single, bench, streams),
-        None => {
-            // The registry is full, and says so of any key.
-            hand_in_under(rt, "g", single, bench, streams)
-        }
-    }
+    let key = own_key(rt.alloc(), bench)?;
+    hand_in_under(rt, key.as_str(), single, bench, streams)
 }

@@ -1,13 +1,15 @@
 //! Commands by themselves: `gmbench label gm0 a.img`, without a key and numbers.
 //!
-//! `by_itself.rt` hands one in as `do` does. `own_key.rt` finds a key for it that no command has, and
-//! `own_numbers.rt` the numbers that it wasn't given. `adopting.rt` adopts all mirrors of a folder.
+//! `by_itself.rt` hands one in as `do` does. `keys.rt` finds a key for it that no command has,
+//! and `own_numbers.rt` the numbers that it wasn't given. `adopting.rt` adopts all mirrors of a
+//! folder.
 #![tactic(auto)]
 
 mod adopting;
 mod by_itself;
-mod own_key;
+mod keys;
 mod own_numbers;
 
 pub use adopting::adopt_all;
 pub use by_itself::hand_in_by_itself;
+pub use keys::{first_key, following_key};

@@ -10,15 +10,18 @@ abbrev pub registers : List (Bor (List ℕ)) → Bool
 registers [] = false
 registers (word ∷ _) = bytes_eq word.now (codes "label") || bytes_eq word.now (codes "adopt")
 
--- all but what fills or compares components, and a command at mirrors that are registered already
+-- all but what fills, compares or replaces components or writes data, and a command at mirrors
+-- that are registered already
 abbrev pub makes_registry : Work → Bool
 makes_registry (work.Sync filling) = false
 makes_registry (work.Scrub comparing) = false
-makes_registry (work.Do key words checks) = registers words.now
+makes_registry (work.Replace replacing) = false
+makes_registry (work.Write writing) = false
+makes_registry (work.Do key words checks form) = registers words.now
 makes_registry (work.Command single) = registers single.words.now
 makes_registry (work.AdoptAll checks) = true
-makes_registry work.Recover = true
-makes_registry (work.RecoverWithout provider key) = true
+makes_registry (work.Recover form) = true
+makes_registry (work.RecoverWithout provider key form) = true
 makes_registry (work.Status form) = true
 makes_registry (work.List form) = true
 makes_registry (work.Audit form) = true

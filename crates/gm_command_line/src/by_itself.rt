@@ -170,7 +170,7 @@ impl Word {
             return arg
                 .long(self.id)
                 .action(ArgAction::SetTrue)
-                .conflicts_with("name");
+                .conflicts_with_all(&["name", "json"]);
         }
         let arg = arg.value_name(self.value);
         Ok(match self.place {
@@ -216,7 +216,8 @@ Example:
     ByItself {
         name: "insert",
         about: "Adds an image to a mirror, to be filled",
-        more: "PROV gets the mirror's data by `gmbench sync`. It writes the last sectors of all components.
+        more: "PROV gets the mirror's data by `gmbench sync`. It writes the last sectors of all
+components.
 
 Example:
   gmbench insert gm0 b.img",
@@ -225,7 +226,8 @@ Example:
     ByItself {
         name: "remove",
         about: "Takes a component out of a mirror",
-        more: "It wipes the last sector of PROV, and writes those of the others. The data of PROV stay.
+        more: "It wipes the last sector of PROV, and writes those of the others. The data of PROV
+stay.
 
 Example:
   gmbench remove gm0 b.img",
@@ -336,7 +338,8 @@ Example:
     ByItself {
         name: "patch",
         about: "Changes sectors of a mirror's data",
-        more: "It writes these sectors of each ACTIVE component, and its last. The others fall behind.
+        more: "It writes these sectors of each ACTIVE component, and its last. The others fall
+behind.
 
 Example:
   gmbench patch --first 17 --data HEX gm0",

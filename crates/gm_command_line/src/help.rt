@@ -22,6 +22,8 @@ Make and change mirrors:
   patch       Changes sectors of a mirror's data
   do          Carries out one command under a key
   batch       Carries out the commands of standard input, a line each
+  replace     Puts an image in the place of another
+  write       Writes the data of a file into a mirror
 
 Fill and check:
   sync        Fills the components that are SYNCHRONIZING
@@ -93,6 +95,9 @@ and with --shelf, after a colon, how the last sector of each of these images com
   no metadata    it carries none
   another        it carries the metadata of another mirror
   absent         the image isn't there in its size
+With --json it is one line, {\"pending\":[..]}: for each write an object whose `write` is copy,
+metadata, clear, `mark dirty` or patch, with `sectors`, `of`, `to` and `from` as above; with --shelf
+`images` says how each stands.
 Nothing is written, and nothing is made.
 
 Example:
@@ -108,6 +113,7 @@ then, so look for it first. One of these lines is printed:
   KEY refused N     nothing was written
 and after the first two, as without these options:
   recovered N       so many writes were pending
+With --json it is one line: {\"recovered\":N}, with `answer`, `key` and `seq` if PROV is given up.
 
 Example:
   gmbench recover --registry registry --shelf images --without b.img --key k5";
@@ -150,7 +156,8 @@ one isn't as it is registered, the batch ends there with status 1:
 pub(crate) const WORDS: &str =
     "The options of gmbench itself come before KEY. After it comes a command, as in a line of a
 batch (`gmbench batch --help`), and it is answered as there. A sentence on standard error says why
-it is refused.
+it is refused. With --json the answer is one line of JSON: `answer` is ok, repeated, refused, fault
+or `not done`, beside `key`, and `seq` or `number`.
 
 Before it is carried out, the images of the mirror that it names are compared with the registry. If
 one isn't as it is registered, nothing is done. This is printed, and the status is 1:
@@ -171,13 +178,14 @@ in `advance` under keys of its own, `sync-N`, so that it may be stopped at any t
 again. First it audits those mirrors. One with an image that isn't as it is registered is passed
 over: the image is named, nothing is written to the mirror, and the status is 1. At the end a line
 for each component says its state:
-  NAME PROV STATE";
+  NAME PROV STATE
+With --json that is one line, with these as `components` and the named images as `passed_over`.";
 
 /// What the help of `scrub` says below its options.
 pub(crate) const COMPARING: &str =
-    "Without NAME it goes through all mirrors. It compares the data of each ACTIVE component with that
-of the mirror's source, the ACTIVE component with the greatest priority and then the least name. It
-prints a line for each that differs, and one for each that can't be compared:
+    "Without NAME it goes through all mirrors. It compares the data of each ACTIVE component with
+those of the mirror's source, the ACTIVE component with the greatest priority and then the least
+name. It prints a line for each that differs, and one for each that can't be compared:
   PROV differs in N sectors, first K
   PROV isn't compared
 It writes nothing, and doesn't say which is right.";
@@ -214,3 +222,33 @@ has a dot. With --any-origin they are answered.
 Example:
   gmbench serve --registry registry --shelf images --port 8080 --count 1 &
   curl http://127.0.0.1:8080/status";
+
+/// What the help of `replace` says below its options.
+pub(crate) const REPLACING: &str =
+    "It inserts NEW, fills it, and removes OLD when NEW is ACTIVE. If OLD's image isn't in the
+folder, it gives OLD up by `lost` and `forget` first. If the mirror has 16 components, which is the
+most, it removes OLD first, and says so. Each command has a key: the first that of --key, or one of
+gmbench's own, and the next ones the same with .2 and .3 after it. Each is answered as `do` answers
+it, and after the filling a line says NEW's state.
+
+It may be stopped at any time. The same words go on where it was; if neither OLD nor NEW is in the
+mirror then, with --key and the first key.
+
+Example:
+  gmbench replace gm0 b.img c.img";
+
+/// What the help of `write` says below its options.
+pub(crate) const WRITING: &str =
+    "It writes the data of FILE into sectors N and those after it, by a `patch` for each 64 sectors.
+Their keys are the one of --key, or one of gmbench's own, and the same with .2, .3 and so on after
+it. Each is answered as `do` answers it, and the first that is refused ends it.
+
+FILE's length must be a multiple of 512, and the mirror must have all those sectors. The registry
+keeps the data for ever, twice as long as FILE: above 16 MiB that wants --force. Without it,
+deactivate all but one image, change that one by other means, activate the others, and sync.
+
+It may be stopped at any time. The same words with --key and the first key go on where it was, and
+are refused if FILE has other data then.
+
+Example:
+  gmbench write gm0 --first 2048 --file loader.bin";

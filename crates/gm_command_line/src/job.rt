@@ -58,6 +58,7 @@ pub struct Filling {
     pub audits: bool,
     /// Whether nothing is told of how far it is.
     pub is_quiet: bool,
+    pub form: Form,
 }
 
 /// How the data of components are to be compared.
@@ -99,18 +100,51 @@ pub struct Single<'a> {
     /// The numbers that gmbench chooses for it.
     pub unnumbered: Unnumbered,
     pub checks: Checks,
+    /// In which form its answer is printed.
+    pub form: Form,
+}
+
+/// Which image is to take another one's place.
+#[derive(Clone, Copy)]
+pub struct Replacing<'a> {
+    pub mirror: Label,
+    /// The image that is taken out.
+    pub old: Label,
+    /// The image that is put in its place.
+    pub new: Label,
+    /// The key of its first command; if none was given, it gets one of gmbench's own.
+    pub key: Option<&'a str>,
+    pub checks: Checks,
+    /// Whether nothing is told of how far it is.
+    pub is_quiet: bool,
+}
+
+/// Which data are to be written into a mirror.
+#[derive(Clone, Copy)]
+pub struct Writing<'a> {
+    pub mirror: Label,
+    /// The first sector that they are written to.
+    pub first: u32,
+    /// The file that has them; `-` stands for the input.
+    pub file: &'a str,
+    /// The key of its first command; if none was given, it gets one of gmbench's own.
+    pub key: Option<&'a str>,
+    pub checks: Checks,
+    /// Whether nothing is told of how far it is.
+    pub is_quiet: bool,
 }
 
 /// What is to be done at a bench whose opening carried out what was pending.
 #[derive(Clone, Copy)]
 pub enum Work<'a> {
     /// Nothing more: say how much was pending.
-    Recover,
+    Recover(Form),
     /// The same of a bench that is opened without a provider, which is given up under a key, any
     /// text: say as well what that is answered.
     RecoverWithout {
         provider: Label,
         key: &'a str,
+        form: Form,
     },
     /// Say how the mirrors stand.
     Status(Form),
@@ -125,11 +159,16 @@ pub enum Work<'a> {
         key: &'a str,
         words: &'a [&'a str],
         checks: Checks,
+        form: Form,
     },
     /// Hand in a command by itself.
     Command(Single<'a>),
     /// Adopt each mirror that the images show whole.
     AdoptAll(Checks),
+    /// Put an image in the place of another.
+    Replace(Replacing<'a>),
+    /// Write data into a mirror.
+    Write(Writing<'a>),
     /// Hand in the commands of an input, and answer each. If it audits, the images that a command
     /// is about are looked at before it, and it ends at the first command that one stands in the
     /// way of; if it stops, it ends at the first that is refused.
@@ -151,7 +190,7 @@ impl Work<'_> {
         ensures { result ≡ makes_registry self.now }
     {
         match *self {
-            Work::Sync(_) | Work::Scrub(_) => false,
+            Work::Sync(_) | Work::Scrub(_) | Work::Replace(_) | Work::Write(_) => false,
             Work::Do { words, .. } => registers(words),
             Work::Command(single) => registers(single.words),
             _ => true,
@@ -209,6 +248,7 @@ pub enum Job<'a> {
     Pending {
         registry: &'a str,
         folder: Option<&'a str>,
+        form: Form,
     },
     /// Look at a registry and a folder, and open no bench.
     LookAt {

@@ -2,8 +2,9 @@
 //! and which job they ask for.
 //!
 //! `job.rt` has the jobs, `settings.rt` what stands for options that are left out, `table.rt` the
-//! table with the texts of `help.rt`, `by_itself.rt` the commands that change mirrors, and
-//! `reading.rt` what words ask for. The lines of a batch are other words (`gm_words`).
+//! table with the texts of `help.rt`, `by_itself.rt` the commands that change mirrors, `reading.rt`
+//! what words ask for, and `tip.rt` where a word belongs that is in a wrong place. The lines of a
+//! batch are other words (`gm_words`).
 #![tactic(auto)]
 
 mod by_itself;
@@ -12,11 +13,13 @@ mod job;
 mod reading;
 mod settings;
 mod table;
+mod tip;
 
 pub use by_itself::{Unnumbered, is_command};
 pub use job::{
-    Asked, Checking, Checks, Comparing, Filling, Form, Job, Look, Manner, Scope, Service, Single,
-    Work,
+    Asked, Checking, Checks, Comparing, Filling, Form, Job, Look, Manner, Replacing, Scope,
+    Service, Single, Work, Writing,
 };
 pub use reading::{Handed, Reading, asked_of};
 pub use settings::{EXISTING, EXPLAIN, REGISTRY, SHELF, Setting, Settings};
+pub use tip::{Tip, tip_for};

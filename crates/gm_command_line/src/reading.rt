@@ -2,11 +2,13 @@
 
 use crate::by_itself::{ByItself, Unnumbered, command_named};
 use crate::job::{
-    Asked, Checking, Checks, Comparing, Filling, Form, Job, Look, Manner, Scope, Service, Single,
-    Work,
+    Asked, Checking, Checks, Comparing, Filling, Form, Job, Look, Manner, Replacing, Scope,
+    Service, Single, Work, Writing,
 };
 use crate::settings::{REGISTRY, SHELF, Setting, Settings};
-use crate::table::{DUMP, RECOVER, SCRUB, SYNC, Subcommand, program, program_command};
+use crate::table::{
+    DUMP, RECOVER, REPLACE, SCRUB, SYNC, Subcommand, WRITE, program, program_command,
+};
 use clap::error::ErrorKind;
 use clap::{ArgMatches, Error};
 use gm_metadata::Label;
@@ -45,6 +47,26 @@ const FILLED_COMPONENT: LabelArgument = LabelArgument {
 const COMPARED: LabelArgument = LabelArgument {
     of: SCRUB,
     name: "[NAME]",
+};
+
+const REPLACED_IN: LabelArgument = LabelArgument {
+    of: REPLACE,
+    name: "<NAME>",
+};
+
+const REPLACED: LabelArgument = LabelArgument {
+    of: REPLACE,
+    name: "<OLD>",
+};
+
+const REPLACEMENT: LabelArgument = LabelArgument {
+    of: REPLACE,
+    name: "<NEW>",
+};
+
+const WRITTEN: LabelArgument = LabelArgument {
+    of: WRITE,
+    name: "<NAME>",
 };
 
 impl LabelArgument {
@@ -154,6 +176,7 @@ fn pending_of<'a>(
     Ok(Job::Pending {
         registry: registry_of(alloc, given, settings)?,
         folder,
+        form: form_of(given),
     })
 }
 
@@ -191,9 +214,14 @@ fn recovery_of<'a>(
     match (given.get_str("without"), given.get_str("key")) {
         (Some(provider), Some(key)) => {
             let provider = WITHOUT.label(alloc, settings, provider)?;
-            Ok(Work::RecoverWithout { provider, key })
+            let form = form_of(given);
+            Ok(Work::RecoverWithout {
+                provider,
+                key,
+                form,
+            })
         }
-        _ => Ok(Work::Recover),
+        _ => Ok(Work::Recover(form_of(given))),
     }
 }
 
@@ -226,6 +254,7 @@ fn filling_of<'a>(
         scope: scope_of(alloc, given, settings)?,
         audits: !given.get_flag("unchecked"),
         is_quiet: given.get_flag("quiet"),
+        form: form_of(given),
     })
 }
 
@@ -253,6 +282,47 @@ fn checking_of(given: &ArgMatches<'_>) -> Checking {
     }
 }
 
+// The label that an argument is which must be given.
+fn label_given<'a>(
+    alloc: Global,
+    given: &ArgMatches<'a>,
+    settings: Settings<'a>,
+    argument: LabelArgument,
+    id: &str,
+) -> Result<Label, Error> {
+    argument.label(alloc, settings, given.get_str(id).unwrap_or(""))
+}
+
+fn replacing_of<'a>(
+    alloc: Global,
+    given: &ArgMatches<'a>,
+    settings: Settings<'a>,
+) -> Result<Replacing<'a>, Error> {
+    Ok(Replacing {
+        mirror: label_given(alloc, given, settings, REPLACED_IN, "name")?,
+        old: label_given(alloc, given, settings, REPLACED, "old")?,
+        new: label_given(alloc, given, settings, REPLACEMENT, "new")?,
+        key: given.get_str("key"),
+        checks: checks_of(given),
+        is_quiet: given.get_flag("quiet"),
+    })
+}
+
+fn writing_of<'a>(
+    alloc: Global,
+    given: &ArgMatches<'a>,
+    settings: Settings<'a>,
+) -> Result<Writing<'a>, Error> {
+    Ok(Writing {
+        mirror: label_given(alloc, given, settings, WRITTEN, "name")?,
+        first: given.get_one("first").unwrap_or(0),
+        file: given.get_str("file").unwrap_or(""),
+        key: given.get_str("key"),
+        checks: checks_of(given),
+        is_quiet: given.get_flag("quiet"),
+    })
+}
+
 // The key and the command of `do`, whose words are the last of the program's.
 fn command_of<'a>(given: &ArgMatches<'a>, words: &'a [&'a str]) -> Work<'a> {
     let count = match given.get_strs("words") {
@@ -263,6 +333,7 @@ fn command_of<'a>(given: &ArgMatches<'a>, words: &'a [&'a str]) -> Work<'a> {
         key: given.get_str("key").unwrap_or(""),
         words: &words[words.len().saturating_sub(count)..],
         checks: checks_of(given),
+        form: form_of(given),
     }
 }
 
@@ -290,6 +361,8 @@ fn work_of<'a>(
         "scrub" => Some(Work::Scrub(comparing_of(alloc, given, settings)?)),
         "do" => Some(command_of(given, words)),
         "adopt" => Some(Work::AdoptAll(checks_of(given))),
+        "replace" => Some(Work::Replace(replacing_of(alloc, given, settings)?)),
+        "write" => Some(Work::Write(writing_of(alloc, given, settings)?)),
         "batch" => Some(Work::Batch {
             audits: given.get_flag("audit"),
             stops: given.get_flag("stop"),
@@ -381,6 +454,7 @@ pub struct Handed<'a> {
     key: Option<&'a str>,
     unnumbered: Unnumbered,
     checks: Checks,
+    form: Form,
     registry: &'a str,
     folder: &'a str,
     manner: Manner,
@@ -396,6 +470,7 @@ impl Handed<'_> {
                     words: &self.words,
                     unnumbered: self.unnumbered,
                     checks: self.checks,
+                    form: self.form,
                 }),
                 registry: self.registry,
                 folder: self.folder,
@@ -417,6 +492,7 @@ fn handed_by<'a>(
         key: given.get_str("key"),
         unnumbered: command.unnumbered(given),
         checks: checks_of(given),
+        form: form_of(given),
         registry: registry_of(alloc, given, settings)?,
         folder: folder_of(alloc, given, settings)?,
         manner: manner_given(given, settings),

@@ -1,7 +1,9 @@
 //! The table of the program's own words, for `clap`.
 
 use crate::by_itself::{ByItself, commands};
-use crate::help::{CHECKING, COMPARING, FILLING, HELP, LINES, LOSSES, REQUESTS, WORDS, WRITES};
+use crate::help::{
+    CHECKING, COMPARING, FILLING, HELP, LINES, LOSSES, REPLACING, REQUESTS, WORDS, WRITES, WRITING,
+};
 use crate::settings::Settings;
 use clap::builder::ValueParser;
 use clap::{Arg, ArgAction, Command};
@@ -183,6 +185,31 @@ fn own_key_option<'a>(alloc: Global) -> Arg<'a> {
     with_value(alloc, "key", "KEY", help)
 }
 
+// A name that must be given.
+fn name_wanted<'a>(alloc: Global, id: &'a str, value: &'a str, help: &'a str) -> Arg<'a> {
+    Arg::new(alloc, id)
+        .value_name(value)
+        .help(help)
+        .required(true)
+        .action(ArgAction::Set)
+}
+
+fn first_option<'a>(alloc: Global) -> Arg<'a> {
+    with_value(alloc, "first", "N", "The first sector, counted from 0")
+        .required(true)
+        .value_parser(ValueParser::unsigned(0, 4_294_967_295))
+}
+
+fn file_option<'a>(alloc: Global) -> Arg<'a> {
+    let help = "The file with the data, or - for standard input";
+    with_value(alloc, "file", "FILE", help).required(true)
+}
+
+fn first_key_option<'a>(alloc: Global) -> Arg<'a> {
+    let help = "The key of its first command, in place of one of gmbench's own";
+    with_value(alloc, "key", "KEY", help)
+}
+
 // What a subcommand takes.
 #[derive(Clone, Copy)]
 enum Takes {
@@ -197,6 +224,8 @@ enum Takes {
     BenchAndMirror,
     BenchAndData,
     BenchAndRequests,
+    BenchAndImages,
+    BenchAndFile,
 }
 
 // A subcommand, and what the help says of it.
@@ -237,7 +266,19 @@ pub(crate) const SCRUB: Subcommand = Subcommand {
     takes: Takes::BenchAndMirror,
 };
 
-const SUBCOMMANDS: [Subcommand; 13] = [
+pub(crate) const REPLACE: Subcommand = Subcommand {
+    name: "replace",
+    about: "Puts an image in the place of another",
+    takes: Takes::BenchAndImages,
+};
+
+pub(crate) const WRITE: Subcommand = Subcommand {
+    name: "write",
+    about: "Writes the data of a file into a mirror",
+    takes: Takes::BenchAndFile,
+};
+
+const SUBCOMMANDS: [Subcommand; 15] = [
     DUMP,
     Subcommand {
         name: "taste",
@@ -277,6 +318,8 @@ const SUBCOMMANDS: [Subcommand; 13] = [
         about: "Carries out the commands of standard input, a line each",
         takes: Takes::BenchAndLines,
     },
+    REPLACE,
+    WRITE,
     SYNC,
     Subcommand {
         name: "serve",
@@ -284,6 +327,27 @@ const SUBCOMMANDS: [Subcommand; 13] = [
         takes: Takes::BenchAndRequests,
     },
 ];
+
+// The subcommand of this name.
+fn subcommand_named(name: &str) -> Option<Subcommand> {
+    SUBCOMMANDS
+        .iter()
+        .copied()
+        .find(|subcommand| subcommand.name == name)
+}
+
+/// Whether a subcommand has this name, beside the commands that change mirrors.
+pub(crate) fn is_subcommand(word: &str) -> bool {
+    subcommand_named(word).is_some()
+}
+
+/// Whether a subcommand has this name that is about a registry.
+pub(crate) fn is_at_registry(word: &str) -> bool {
+    match subcommand_named(word) {
+        Some(subcommand) => !matches!(subcommand.takes, Takes::Image | Takes::Folder),
+        None => false,
+    }
+}
 
 fn with_image<'a>(
     alloc: Global,
@@ -316,6 +380,7 @@ fn with_registry<'a>(
     command
         .arg(registry_there(alloc, settings))?
         .arg(shelf_if_any(alloc))?
+        .arg(json_option(alloc))?
         .arg(explain_option(alloc))?
         .arg(wait_option(alloc))
 }
@@ -352,11 +417,15 @@ fn with_look<'a>(alloc: Global, command: Command<'a>) -> Result<Command<'a>, All
 }
 
 fn with_loss<'a>(alloc: Global, command: Command<'a>) -> Result<Command<'a>, AllocError> {
-    command.arg(without_option(alloc)?)?.arg(key_option(alloc)?)
+    command
+        .arg(json_option(alloc))?
+        .arg(without_option(alloc)?)?
+        .arg(key_option(alloc)?)
 }
 
 fn with_command<'a>(alloc: Global, command: Command<'a>) -> Result<Command<'a>, AllocError> {
     command
+        .arg(json_option(alloc))?
         .arg(unchecked_option(alloc))?
         .arg(force_option(alloc))?
         .arg(key_word(alloc))?
@@ -369,6 +438,7 @@ fn with_lines<'a>(alloc: Global, command: Command<'a>) -> Result<Command<'a>, Al
 
 fn with_scope<'a>(alloc: Global, command: Command<'a>) -> Result<Command<'a>, AllocError> {
     command
+        .arg(json_option(alloc))?
         .arg(unchecked_option(alloc))?
         .arg(quiet_option(alloc))?
         .arg(mirror_name(alloc))?
@@ -398,6 +468,30 @@ fn with_requests<'a>(alloc: Global, command: Command<'a>) -> Result<Command<'a>,
         .arg(origin_option(alloc))
 }
 
+// What hands in several commands.
+fn with_commands<'a>(alloc: Global, command: Command<'a>) -> Result<Command<'a>, AllocError> {
+    command
+        .arg(unchecked_option(alloc))?
+        .arg(force_option(alloc))?
+        .arg(quiet_option(alloc))?
+        .arg(first_key_option(alloc))?
+        .arg(name_wanted(alloc, "name", "NAME", "The name of a mirror"))
+}
+
+fn with_images<'a>(alloc: Global, command: Command<'a>) -> Result<Command<'a>, AllocError> {
+    let old = "The image that is taken out";
+    let new = "The image that takes its place";
+    with_commands(alloc, command)?
+        .arg(name_wanted(alloc, "old", "OLD", old))?
+        .arg(name_wanted(alloc, "new", "NEW", new))
+}
+
+fn with_file<'a>(alloc: Global, command: Command<'a>) -> Result<Command<'a>, AllocError> {
+    with_commands(alloc, command)?
+        .arg(first_option(alloc))?
+        .arg(file_option(alloc))
+}
+
 impl Subcommand {
     // What its help says below its options.
     fn more(self) -> Option<&'static str> {
@@ -411,6 +505,8 @@ impl Subcommand {
             Takes::BenchAndMirror => Some(COMPARING),
             Takes::BenchAndData => Some(CHECKING),
             Takes::BenchAndRequests => Some(REQUESTS),
+            Takes::BenchAndImages => Some(REPLACING),
+            Takes::BenchAndFile => Some(WRITING),
         }
     }
 
@@ -436,9 +532,11 @@ impl Subcommand {
             _ => {}
         }
         let command = match self.takes {
-            Takes::BenchAndScope | Takes::BenchAndMirror | Takes::BenchAndData => {
-                with_bench_there(alloc, command, settings)?
-            }
+            Takes::BenchAndScope
+            | Takes::BenchAndMirror
+            | Takes::BenchAndData
+            | Takes::BenchAndImages
+            | Takes::BenchAndFile => with_bench_there(alloc, command, settings)?,
             _ => with_bench(alloc, command, settings)?,
         };
         match self.takes {
@@ -451,6 +549,8 @@ impl Subcommand {
             Takes::BenchAndMirror => with_mirror(alloc, command),
             Takes::BenchAndData => with_data(alloc, command),
             Takes::BenchAndRequests => with_requests(alloc, command),
+            Takes::BenchAndImages => with_images(alloc, command),
+            Takes::BenchAndFile => with_file(alloc, command),
         }
     }
 }
@@ -463,6 +563,7 @@ fn command_by_itself<'a>(
 ) -> Result<Command<'a>, AllocError> {
     let command = with_bench(alloc, command.command(alloc)?, settings)?;
     command
+        .arg(json_option(alloc))?
         .arg(unchecked_option(alloc))?
         .arg(force_option(alloc))?
         .arg(own_key_option(alloc))

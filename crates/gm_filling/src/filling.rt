@@ -7,7 +7,7 @@ ghost use Rattle.gm_process.specs.Statuses.{MayRefuse};
 ghost use Rattle.gm_process.specs.declared.status.Status.TheVariants.{Refused};
 
 use crate::needs::{name_room, name_stale, needed};
-use crate::standing::standing_text;
+use crate::standing::{refused_json, standing_json, standing_text};
 use gm_bench::{Bench, BenchFault};
 use gm_command_line::{self, Filling, Form};
 use gm_faults::Fault;
@@ -147,6 +147,46 @@ fn synced_report<I, O, E: Write>(
     Ok(report)
 }
 
+// The same as a line of JSON.
+fn synced_report_as_json<I, O, E: Write>(
+    alloc: Global,
+    streams: &mut Streams<'_, I, O, E>,
+    synced: &Synced,
+    scope: &Scope,
+) -> Result<Report, AllocError>
+    ensures { IfOk result (λ report. MayRefuse report.status) }
+{
+    let report = synced_report(alloc, streams, synced, scope)?;
+    let passed_over = &synced.passed_over;
+    let text = match &synced.ending {
+        Ending::Whole(state) => standing_json(alloc, state, scope, passed_over)?,
+        Ending::Refused { why, .. } => refused_json(alloc, why.number(), &passed_over.images)?,
+    };
+    Ok(Report {
+        status: report.status,
+        text,
+    })
+}
+
+// Says that what is meant isn't there.
+fn not_there_report<I, O, E: Write>(
+    alloc: Global,
+    streams: &mut Streams<'_, I, O, E>,
+    why: WhyRefused,
+    form: Form,
+) -> Result<Report, AllocError>
+    ensures { IfOk result (λ report. MayRefuse report.status) }
+{
+    let report = refused(alloc, streams, why)?;
+    match form {
+        Form::Text => Ok(report),
+        Form::Json => Ok(Report {
+            status: report.status,
+            text: refused_json(alloc, why.why.number(), &[])?,
+        }),
+    }
+}
+
 /// Fills components, and says how they stand then. It is refused if a mirror is passed over,
 /// because an image of it isn't as it is registered, also if all others are filled.
 pub fn fill_components<S: Alter, H: Shelf, I, O, E: Write>(
@@ -156,12 +196,13 @@ pub fn fill_components<S: Alter, H: Shelf, I, O, E: Write>(
     streams: &mut Streams<'_, I, O, E>,
 ) -> Result<Report, Fault>
     requires { TakesCommands (progress_of bench.old) }
-    ensures { IfOk result (λ report. MayRefuse report.status) }
+    ensures ends { IfOk result (λ report. MayRefuse report.status) }
+    ensures phase { OnOk result (TakesCommands (progress_of bench.new)) }
 {
     let alloc = rt.alloc();
     let scope = scope_of(filling.scope);
     if let Some(why) = not_there(alloc, bench, scope)? {
-        return Ok(refused(alloc, streams, why)?);
+        return Ok(not_there_report(alloc, streams, why, filling.form)?);
     }
     let style = streams.explaining.style(filling.is_quiet);
     let mut filled = Filled {
@@ -171,5 +212,8 @@ pub fn fill_components<S: Alter, H: Shelf, I, O, E: Write>(
     };
     let synced = sync(alloc, bench, &scope, filling.audits, &mut filled);
     filled.meter.end();
-    Ok(synced_report(alloc, streams, &synced?, &scope)?)
+    match filling.form {
+        Form::Text => Ok(synced_report(alloc, streams, &synced?, &scope)?),
+        Form::Json => Ok(synced_report_as_json(alloc, streams, &synced?, &scope)?),
+    }
 }

@@ -13,7 +13,7 @@ use gm_front::{
     BatchEnd, FrontFault, Guarded, Listener, Outcome, ask_guarded, heard_batch, withheld_text,
 };
 use gm_lines::{Line, MAX_LINE, next_line, pieces, request_of};
-use gm_process::{Status, Streams};
+use gm_process::{Explaining, Status, Streams};
 use gm_shelf::Shelf;
 use sqlite::Alter;
 use std::alloc::{AllocError, Global};
@@ -56,6 +56,24 @@ pub fn hand_in<S: Alter, H: Shelf, I: BufRead, O: Write, E: Write>(
     let alloc = rt.alloc();
     let (input, output) = (&mut *streams.input, &mut *streams.output);
     status_of_end(heard_batch(alloc, input, output, bench, &mut explainer))
+}
+
+/// Hands in each line of a text, as a batch does that has the text for its input.
+pub fn hand_in_text<S: Alter, H: Shelf, O: Write, E: Write>(
+    rt: &HostRuntime,
+    text: &str,
+    bench: &mut Bench<S, H>,
+    output: &mut O,
+    complaints: &mut E,
+    explaining: &Explaining,
+) -> Result<Status, Fault>
+    requires { TakesCommands (progress_of bench.old) }
+    ensures ends { IfOk result MayRefuse }
+    ensures phase { TakesCommands (progress_of bench.new) }
+{
+    let mut explainer = Explainer::new(rt, complaints, explaining);
+    let mut input = text.as_bytes();
+    status_of_end(heard_batch(rt.alloc(), &mut input, output, bench, &mut explainer))
 }
 
 // How a batch goes on after a line.

@@ -18,6 +18,6 @@ mod single;
 mod tip;
 mod withheld;
 
-pub use batch::{Lines, hand_in, hand_in_lines_of};
+pub use batch::{Lines, hand_in, hand_in_lines_of, hand_in_text};
 pub use serving::{serve, serve_connections};
-pub use single::hand_in_one;
+pub use single::{One, hand_in_one};

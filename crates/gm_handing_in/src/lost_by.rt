@@ -2,8 +2,11 @@
 
 ghost use Rattle.std.specs.Prelude.{◌≡◌, OnOk};
 ghost use Rattle.gm_bench.specs.Benches.{progress_of};
+ghost use Rattle.gm_bench.specs.Phases.{TakesCommands};
 
+use gm_answers::not_done_in;
 use gm_bench::Bench;
+use gm_command_line::Form;
 use gm_commands::Command;
 use gm_faults::Fault;
 use gm_losses::{Loss, losses};
@@ -105,9 +108,16 @@ fn goes_on<I: BufRead, O, E: Write>(
 }
 
 // That the command isn't done.
-fn tell_not_done<I, O: Write, E>(key: &str, streams: &mut Streams<'_, I, O, E>) -> io::Result<()> {
-    writeln!(streams.output, "{key} not done")?;
-    streams.output.flush()
+fn tell_not_done<I, O: Write, E>(
+    alloc: Global,
+    key: &str,
+    form: Form,
+    streams: &mut Streams<'_, I, O, E>,
+) -> Result<(), Fault> {
+    let text = not_done_in(alloc, form, key)?;
+    streams.output.write_all(text.as_bytes())?;
+    streams.output.flush()?;
+    Ok(())
 }
 
 /// Whether nothing is lost by a command, or whoever runs the program wants it all the same; else it
@@ -117,10 +127,12 @@ pub(crate) fn lets_go<S: Alter, H: Shelf, I: BufRead, O: Write, E: Write>(
     rt: &HostRuntime,
     key: &str,
     command: &Command,
+    form: Form,
     bench: &mut Bench<S, H>,
     streams: &mut Streams<'_, I, O, E>,
 ) -> Result<bool, Fault>
-    ensures { OnOk result (progress_of bench.new ≡ progress_of bench.old) }
+    ensures same { OnOk result (progress_of bench.new ≡ progress_of bench.old) }
+    ensures phase { TakesCommands (progress_of bench.old) → TakesCommands (progress_of bench.new) }
 {
     let alloc = rt.alloc();
     let state = bench.view(alloc)?;
@@ -130,7 +142,7 @@ pub(crate) fn lets_go<S: Alter, H: Shelf, I: BufRead, O: Write, E: Write>(
     }
     let asks = streams.explaining.asks;
     if !asks {
-        tell_not_done(key, streams)?;
+        tell_not_done(alloc, key, form, streams)?;
     }
     for loss in &found {
         let _ = say(streams.complaints, key, loss);
@@ -139,7 +151,7 @@ pub(crate) fn lets_go<S: Alter, H: Shelf, I: BufRead, O: Write, E: Write>(
         if goes_on(alloc, streams)? {
             return Ok(true);
         }
-        tell_not_done(key, streams)?;
+        tell_not_done(alloc, key, form, streams)?;
     }
     let _ = writeln!(
         streams.complaints,

@@ -9,17 +9,30 @@ ghost use Rattle.gm_process.specs.Statuses.{MayRefuse, status_of_refused};
 use crate::explainer::Explainer;
 use crate::lost_by::lets_go;
 use crate::tip::say_tip;
+use gm_answers::{outcome_in, withheld_in};
 use gm_bench::Bench;
-use gm_command_line::Checks;
+use gm_command_line::{Checks, Form};
 use gm_commands::is_key;
 use gm_faults::Fault;
-use gm_front::{Guarded, Outcome, ask, ask_guarded, in_the_way, withheld_text};
+use gm_front::{Guarded, Outcome, ask, ask_guarded, in_the_way};
 use gm_lines::{Request, request_of};
+use gm_looks::Unlike;
 use gm_process::{Status, Streams};
 use gm_shelf::Shelf;
 use sqlite::Alter;
 use std::alloc::{AllocError, Global};
 use std::io::{BufRead, Write};
+
+/// A command that is handed in by itself, and how.
+#[derive(Clone, Copy)]
+pub struct One<'a> {
+    pub key: &'a str,
+    /// The command's words, the first of which is its name.
+    pub words: &'a [&'a str],
+    pub checks: Checks,
+    /// In which form it is printed what it came to.
+    pub form: Form,
+}
 
 // The key and the words, as the pieces of a line.
 fn pieces<'a>(alloc: Global, key: &'a str, words: &[&'a str]) -> Result<Vec<&'a str>, AllocError> {
@@ -48,36 +61,38 @@ fn status_of(outcome: &Outcome<'_>) -> Result<Status, Fault>
 fn passes<S: Alter, H: Shelf, I: BufRead, O: Write, E: Write>(
     rt: &HostRuntime,
     request: &Request<'_>,
-    checks: Checks,
+    one: One<'_>,
     bench: &mut Bench<S, H>,
     streams: &mut Streams<'_, I, O, E>,
 ) -> Result<bool, Fault>
-    ensures { OnOk result (progress_of bench.new ≡ progress_of bench.old) }
+    ensures same { OnOk result (progress_of bench.new ≡ progress_of bench.old) }
+    ensures phase { TakesCommands (progress_of bench.old) → TakesCommands (progress_of bench.new) }
 {
     let Request::Call(key, ref command) = *request else {
         return Ok(true);
     };
-    if !checks.losses || !is_key(key) || bench.kept(key)?.is_some() {
+    if !one.checks.losses || !is_key(key) || bench.kept(key)?.is_some() {
         return Ok(true);
     }
-    if checks.images && !in_the_way(rt.alloc(), bench, key, command)?.is_empty() {
+    if one.checks.images && !in_the_way(rt.alloc(), bench, key, command)?.is_empty() {
         return Ok(true);
     }
-    lets_go(rt, key, command, bench, streams)
+    lets_go(rt, key, command, one.form, bench, streams)
 }
 
 // Prints what a command came to, and explains it.
 fn tell<S: Alter, H: Shelf, I, O: Write, E: Write>(
     rt: &HostRuntime,
-    words: &[&str],
+    one: One<'_>,
     outcome: &Outcome<'_>,
     bench: &mut Bench<S, H>,
     streams: &mut Streams<'_, I, O, E>,
 ) -> Result<Status, Fault>
-    ensures { IfOk result MayRefuse }
+    ensures ends { IfOk result MayRefuse }
+    ensures phase { TakesCommands (progress_of bench.old) → TakesCommands (progress_of bench.new) }
 {
     let alloc = rt.alloc();
-    let text = outcome.text(alloc)?;
+    let text = outcome_in(alloc, one.form, outcome)?;
     streams.output.write_all(text.as_bytes())?;
     streams.output.flush()?;
     let state = match outcome.is_refused() && streams.explaining.wanted {
@@ -86,54 +101,74 @@ fn tell<S: Alter, H: Shelf, I, O: Write, E: Write>(
     };
     let explainer = Explainer::new(rt, streams.complaints, &streams.explaining);
     let mut explainer = explainer.knowing(state.as_ref());
-    explainer.explain(words, outcome);
+    explainer.explain(one.words, outcome);
     explainer.explain_repeated(outcome);
-    say_tip(streams.complaints, words, outcome);
+    say_tip(streams.complaints, one.words, outcome);
     status_of(outcome)
 }
 
-/// Hands in the command of these words under a key, if the checks let it pass, and prints what it
-/// came to.
-pub fn hand_in_one<S: Alter, H: Shelf, I: BufRead, O: Write, E: Write>(
+// Prints that a command isn't done, and explains which images stand in its way.
+fn tell_withheld<I, O: Write, E: Write>(
     rt: &HostRuntime,
     key: &str,
-    words: &[&str],
+    list: &[Unlike],
+    form: Form,
+    streams: &mut Streams<'_, I, O, E>,
+) -> Result<Status, Fault>
+    ensures { IfOk result MayRefuse }
+{
+    let text = withheld_in(rt.alloc(), form, key, list)?;
+    streams.output.write_all(text.as_bytes())?;
+    streams.output.flush()?;
+    let mut explainer = Explainer::new(rt, streams.complaints, &streams.explaining);
+    explainer.explain_withheld(key, list, "--unchecked carries it out all the same");
+    Ok(Status::Refused)
+}
+
+// Hands in a request, unless images stand in its way.
+fn asked<'a, S: Alter, H: Shelf>(
+    alloc: Global,
+    request: &Request<'a>,
     checks: Checks,
+    bench: &mut Bench<S, H>,
+) -> Guarded<'a>
+    requires { TakesCommands (progress_of bench.old) }
+    ensures { TakesCommands (progress_of bench.new) }
+{
+    if checks.images {
+        ask_guarded(alloc, bench, request)
+    } else {
+        Guarded::Through(ask(alloc, bench, request))
+    }
+}
+
+/// Hands in a command, if the checks let it pass, and prints what it came to.
+pub fn hand_in_one<S: Alter, H: Shelf, I: BufRead, O: Write, E: Write>(
+    rt: &HostRuntime,
+    one: One<'_>,
     bench: &mut Bench<S, H>,
     streams: &mut Streams<'_, I, O, E>,
 ) -> Result<Status, Fault>
     requires { TakesCommands (progress_of bench.old) }
-    ensures { IfOk result MayRefuse }
+    ensures ends { IfOk result MayRefuse }
+    ensures phase { TakesCommands (progress_of bench.new) }
 {
     let alloc = rt.alloc();
-    let pieces = pieces(alloc, key, words)?;
+    let pieces = pieces(alloc, one.key, one.words)?;
     let request = request_of(alloc, &pieces)?;
-    match passes(rt, &request, checks, bench, streams) {
+    match passes(rt, &request, one, bench, streams) {
         Ok(true) => {}
         Ok(false) => return Ok(Status::Refused),
         Err(Fault::Bench(fault)) => {
-            return tell(rt, words, &Outcome::Failed(key, fault), bench, streams);
+            return tell(rt, one, &Outcome::Failed(one.key, fault), bench, streams);
         }
         Err(fault) => return Err(fault),
     }
-    let guarded = if checks.images {
-        ask_guarded(alloc, bench, &request)
-    } else {
-        Guarded::Through(ask(alloc, bench, &request))
-    };
-    match guarded {
-        Guarded::Through(outcome) => tell(rt, words, &outcome, bench, streams),
+    match asked(alloc, &request, one.checks, bench) {
+        Guarded::Through(outcome) => tell(rt, one, &outcome, bench, streams),
         Guarded::Unlooked(key, fault) => {
-            tell(rt, words, &Outcome::Failed(key, fault), bench, streams)
+            tell(rt, one, &Outcome::Failed(key, fault), bench, streams)
         }
-        Guarded::Withheld(key, list) => {
-            streams
-                .output
-                .write_all(withheld_text(alloc, key, &list)?.as_bytes())?;
-            streams.output.flush()?;
-            let mut explainer = Explainer::new(rt, streams.complaints, &streams.explaining);
-            explainer.explain_withheld(key, &list, "--unchecked carries it out all the same");
-            Ok(Status::Refused)
-        }
+        Guarded::Withheld(key, list) => tell_withheld(rt, key, &list, one.form, streams),
     }
 }

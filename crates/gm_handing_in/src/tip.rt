@@ -5,12 +5,13 @@ use gm_front::Outcome;
 use std::io::Write;
 
 // The options of `do`, which come before the key.
-const OPTIONS: [&str; 7] = [
+const OPTIONS: [&str; 8] = [
     "--registry",
     "--shelf",
     "--existing",
     "--explain",
     "--wait",
+    "--json",
     "--unchecked",
     "--force",
 ];

@@ -1,7 +1,11 @@
 -- No value that is built here has a float.
-use Rattle.std.proofs.Common.{◌≡◌, ℕ, false, List, [], ◌∷◌, Option, Some, None, map, refl}
+use Rattle.std.proofs.Common.{◌≡◌, ℕ, Bool, true, false, List, [], ◌∷◌, ◌++◌, Option, Some, None, map, refl}
+use Rattle.std.specs.Prelude.{codes}
 use Rattle.gm_state.specs.declared.records.Mirror.{Mirror}
 use Rattle.gm_state.specs.declared.records.Component.{Component}
+use Rattle.gm_state.specs.declared.records.Disk.{Disk}
+use Rattle.gm_state.specs.declared.records.Disk.TheVariants.{InSync, Inactive, Copying}
+use Rattle.gm_state.specs.Disks.{disk_flags}
 use Rattle.gm_state.specs.Records.{Records, members}
 use Rattle.serde_json.specs.Data.{Data, string}
 use Rattle.serde_json.specs.View.{items_of}
@@ -14,7 +18,10 @@ use Rattle.gm_looks.specs.declared.scrub.Scrubbed.{Scrubbed}
 use Rattle.gm_json.specs.Audits.{audit_data, difference_data, differing, scrub_data, uncompared}
 use Rattle.gm_unlike.specs.declared.checkup.Checkup.{Checkup}
 use Rattle.gm_json.specs.Checks.{check_data, unlike_data}
-use Rattle.gm_json.specs.Mirrors.{component_data, list_data, mirror_data, standing_component, standing_mirror, status_data}
+use Rattle.gm_looks.specs.declared.unlike.Unlike.{Unlike}
+use Rattle.gm_json.specs.Keyed.{in_the_way_data, withheld_data}
+use Rattle.gm_json.specs.Mirrors.{component_data, mirror_data, standing_component, standing_mirror, status_data}
+use Rattle.gm_json.specs.Shown.{disk_flag_names, held_component, held_data, held_mirror, name_where, shown_component, shown_data, shown_mirror}
 use Rattle.gm_json.specs.Tastings.{filled_to, left_data, passed_data, tasted_component, tasted_mirror, tasted_with, tasting_data}
 
 -- nor has a list of them
@@ -35,10 +42,45 @@ status_none s =
 pub mirror_none : (m : Mirror) (ks : List Component) → has_float (mirror_data m ks) ≡ false
 mirror_none m ks = rw (none_of_each (component_data m) ks (λ k. refl))
 
-pub list_none : (s : Records) → has_float (list_data s) ≡ false
-list_none s =
-    none_of_each (λ m. mirror_data m (members s.components m.name)) s.mirrors
-    (λ m. mirror_none m (members s.components m.name))
+held_mirror_none : (m : Mirror) (ks : List Component) → has_float (held_mirror m ks) ≡ false
+held_mirror_none m ks = rw (none_of_each (held_component m) ks (λ k. refl))
+
+pub held_none : (s : Records) → has_float (held_data s) ≡ false
+held_none s =
+    rw (none_of_each (λ m. held_mirror m (members s.components m.name)) s.mirrors
+    (λ m. held_mirror_none m (members s.components m.name)))
+
+-- nor has a list of the names of flags
+two_names_none : (a b : Bool) → items_have_float (items_of
+    (name_where a (codes "NOAUTOSYNC") ++ name_where b (codes "NOFAILSYNC"))) ≡ false
+two_names_none true true = refl
+two_names_none true false = refl
+two_names_none false true = refl
+two_names_none false false = refl
+
+disk_names_none : (d : Disk)
+    → items_have_float (items_of (disk_flag_names (disk_flags d))) ≡ false
+disk_names_none InSync = refl
+disk_names_none Inactive = refl
+disk_names_none (Copying true held) = refl
+disk_names_none (Copying false held) = refl
+
+shown_component_none : (m : Mirror) (k : Component) → has_float (shown_component m k) ≡ false
+shown_component_none m k = rw (disk_names_none k.disk)
+
+shown_mirror_none : (m : Mirror) (ks : List Component) → has_float (shown_mirror m ks) ≡ false
+shown_mirror_none m ks =
+    rw (none_of_each (shown_component m) ks (shown_component_none m))
+    (rw (two_names_none m.flags.no_autosync m.flags.no_failsync))
+
+pub shown_none : (s : Records) → has_float (shown_data s) ≡ false
+shown_none s =
+    rw (none_of_each (λ m. shown_mirror m (members s.components m.name)) s.mirrors
+    (λ m. shown_mirror_none m (members s.components m.name)))
+
+pub withheld_none : (key : List ℕ) (list : List Unlike)
+    → has_float (withheld_data key list) ≡ false
+withheld_none key list = rw (none_of_each in_the_way_data list (λ x. refl))
 
 pub audit_none : (names : List (List ℕ)) → has_float (audit_data names) ≡ false
 audit_none names = rw (none_of_each string names (λ name. refl))

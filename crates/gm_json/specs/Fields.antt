@@ -9,6 +9,10 @@ pub record Field : Type 0 where
   pub key : List ℕ
   pub value : Data
 
+-- one with this value
+abbrev pub value_at : List ℕ → Data → Field
+value_at key value = record { key = key; value = value }
+
 -- one that is a number
 abbrev pub number_at : List ℕ → ℕ → Field
 number_at key n = record { key = key; value = number (unsigned n) }

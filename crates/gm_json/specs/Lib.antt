@@ -2,6 +2,8 @@ pub mod Answers
 pub mod Audits
 pub mod Checks
 pub mod Fields
+pub mod Keyed
 pub mod Mirrors
 pub mod Sectors
+pub mod Shown
 pub mod Tastings

@@ -4,7 +4,7 @@ ghost use Rattle.std.specs.Prelude.{◌≡◌, IfOk, map, option_map};
 ghost use Rattle.std.specs.String.{string_bytes};
 ghost use Rattle.serde_json.specs.View.{items_of, items_view, view};
 ghost use Rattle.gm_state.specs.Records.{members};
-ghost use Rattle.gm_json.specs.Mirrors.{component_data, list_data, list_json, mirror_data, mirror_json, standing_component, standing_mirror, state_of, status_data, status_json};
+ghost use Rattle.gm_json.specs.Mirrors.{component_data, component_with, mirror_data, mirror_json, mirror_with, standing_component, standing_mirror, standing_with, state_of, status_data, status_json};
 
 use crate::text::{put_text, text_of};
 use gm_metadata::Label;
@@ -13,7 +13,7 @@ use serde_json::{Map, Value, json, put};
 use std::alloc::{AllocError, Global};
 
 // The name of the state of a component.
-fn state_of(m: &Mirror, k: &Component) -> &'static str
+pub(crate) fn state_of(m: &Mirror, k: &Component) -> &'static str
     ensures { result.now ≡ state_of m.now k.now }
 {
     state_by(m.flags, k.disk).name()
@@ -44,16 +44,28 @@ fn standing_components(
     Ok(values)
 }
 
+// A mirror in the status that has these components, which are told so.
+pub(crate) fn standing_with(
+    alloc: Global,
+    components: Value,
+    m: &Mirror,
+    members: &[Component],
+) -> Result<Value, AllocError>
+    ensures { IfOk result (λ v. view v ≡ standing_with (view components) m.now members.now) }
+{
+    let mut map = Map::new(alloc);
+    put(&mut map, alloc, "components", components)?;
+    put_text(&mut map, alloc, "name", m.name.as_str())?;
+    put_text(&mut map, alloc, "state", state_among(m, members).name())?;
+    Ok(Value::Object(map))
+}
+
 // A mirror with these components in the status.
 fn standing_mirror(alloc: Global, m: &Mirror, members: &[Component]) -> Result<Value, AllocError>
     ensures { IfOk result (λ v. view v ≡ standing_mirror m.now members.now) }
 {
-    let components = standing_components(alloc, m, members)?;
-    let mut map = Map::new(alloc);
-    put(&mut map, alloc, "components", Value::Array(components))?;
-    put_text(&mut map, alloc, "name", m.name.as_str())?;
-    put_text(&mut map, alloc, "state", state_among(m, members).name())?;
-    Ok(Value::Object(map))
+    let components = Value::Array(standing_components(alloc, m, members)?);
+    standing_with(alloc, components, m, members)
 }
 
 // Each mirror in the status.
@@ -85,13 +97,18 @@ pub fn status_json(alloc: Global, state: &State) -> Result<String, AllocError>
     text_of(alloc, &value)
 }
 
-// All that is known of a component.
-fn component_value(alloc: Global, m: &Mirror, k: &Component) -> Result<Value, AllocError>
-    ensures { IfOk result (λ v. view v ≡ component_data m.now k.now) }
+// All that is known of a component, whose flags are told so.
+pub(crate) fn component_with(
+    alloc: Global,
+    flags: Value,
+    m: &Mirror,
+    k: &Component,
+) -> Result<Value, AllocError>
+    ensures { IfOk result (λ v. view v ≡ component_with (view flags) m.now k.now) }
 {
     let mut map = Map::new(alloc);
     put(&mut map, alloc, "did", Value::from(k.did))?;
-    put(&mut map, alloc, "flags", Value::from(k.disk.flags().bits()))?;
+    put(&mut map, alloc, "flags", flags)?;
     put(&mut map, alloc, "hardcoded", Value::from(k.hardcoded))?;
     put_text(&mut map, alloc, "name", k.provider.as_str())?;
     put(
@@ -112,6 +129,14 @@ fn component_value(alloc: Global, m: &Mirror, k: &Component) -> Result<Value, Al
     Ok(Value::Object(map))
 }
 
+// All that is known of a component, with its flags as a number.
+fn component_value(alloc: Global, m: &Mirror, k: &Component) -> Result<Value, AllocError>
+    ensures { IfOk result (λ v. view v ≡ component_data m.now k.now) }
+{
+    let flags = Value::from(k.disk.flags().bits());
+    component_with(alloc, flags, m, k)
+}
+
 fn component_values(
     alloc: Global,
     m: &Mirror,
@@ -127,16 +152,23 @@ fn component_values(
     Ok(values)
 }
 
-// All that is known of a mirror with these components.
-fn mirror_value(alloc: Global, m: &Mirror, members: &[Component]) -> Result<Value, AllocError>
-    ensures { IfOk result (λ v. view v ≡ mirror_data m.now members.now) }
+// All that is known of a mirror with these components, of which it has these values, and whose
+// flags are told so.
+pub(crate) fn mirror_with(
+    alloc: Global,
+    flags: Value,
+    components: Value,
+    m: &Mirror,
+    members: &[Component],
+) -> Result<Value, AllocError>
+    ensures { IfOk result
+        (λ v. view v ≡ mirror_with (view flags) (view components) m.now members.now) }
 {
     let mut map = Map::new(alloc);
     put(&mut map, alloc, "all", Value::from(m.all))?;
     put_text(&mut map, alloc, "balance", m.balance.name())?;
-    let components = component_values(alloc, m, members)?;
-    put(&mut map, alloc, "components", Value::Array(components))?;
-    put(&mut map, alloc, "flags", Value::from(m.flags.bits()))?;
+    put(&mut map, alloc, "components", components)?;
+    put(&mut map, alloc, "flags", flags)?;
     put(&mut map, alloc, "genid", Value::from(m.genid))?;
     put(
         &mut map,
@@ -152,31 +184,13 @@ fn mirror_value(alloc: Global, m: &Mirror, members: &[Component]) -> Result<Valu
     Ok(Value::Object(map))
 }
 
-fn mirror_values(alloc: Global, state: &State) -> Result<Vec<Value>, AllocError>
-    ensures { IfOk result (λ vs. items_view vs.items ≡ items_of
-        (map (λ m. mirror_data m (members state.now.components m.name)) state.now.mirrors)) }
+// All that is known of a mirror with these components, with flags as numbers.
+fn mirror_value(alloc: Global, m: &Mirror, members: &[Component]) -> Result<Value, AllocError>
+    ensures { IfOk result (λ v. view v ≡ mirror_data m.now members.now) }
 {
-    let mut values = Vec::new(alloc);
-    for mirror in state.mirrors() {
-        let members = state.members(alloc, mirror.name)?;
-        values.push(mirror_value(alloc, mirror, &members)?)?;
-    }
-    Ok(values)
-}
-
-fn list_value(alloc: Global, state: &State) -> Result<Value, AllocError>
-    ensures { IfOk result (λ v. view v ≡ list_data state.now) }
-{
-    Ok(Value::Array(mirror_values(alloc, state)?))
-}
-
-/// All that is known of each mirror and of its components, in byte order of names, as
-/// `mirror_json` tells it of one.
-pub fn list_json(alloc: Global, state: &State) -> Result<String, AllocError>
-    ensures { IfOk result (λ text. string_bytes text ≡ list_json state.now) }
-{
-    let value = list_value(alloc, state)?;
-    text_of(alloc, &value)
+    let components = Value::Array(component_values(alloc, m, members)?);
+    let flags = Value::from(m.flags.bits());
+    mirror_with(alloc, flags, components, m, members)
 }
 
 /// All that is known of the mirror of this name and of its components, in byte order of names;

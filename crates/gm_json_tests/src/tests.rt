@@ -1,8 +1,10 @@
 //! Every text is compact, with the keys of each object in byte order.
 
 use gm_json::{
-    audit_json, check_json, decode_json, done_json, error_json, fault_json, list_json,
-    metadata_json, mirror_json, refused_json, repeated_json, scrub_json, status_json, tasting_json,
+    audit_json, check_json, decode_json, done_json, error_json, fault_json, held_json,
+    keyed_done_json, keyed_fault_json, keyed_refused_json, keyed_repeated_json, metadata_json,
+    mirror_json, not_done_json, recovered_json, recovered_without_json, refused_json,
+    repeated_json, scrub_json, shown_json, status_json, tasting_json, withheld_json,
 };
 use gm_looks::{Flaw, Scrubbed, Standing, Unlike};
 use gm_metadata::{Balance, DecodeFault, DiskFlags, Label, Metadata, MirrorFlags};
@@ -55,17 +57,28 @@ const METADATA: &str = concat!(
     r#""slice":8192,"sync_offset":1024,"syncid":6}"#
 );
 
-// The same two mirrors.
-const LIST: &str = concat!(
-    r#"[{"all":2,"balance":"round-robin","components":[{"did":2,"flags":0,"hardcoded":false,"#,
-    r#""name":"a.img","offset":0,"priority":0,"provsize":2048,"state":"ACTIVE","syncid":4},"#,
-    r#"{"did":1,"flags":6,"hardcoded":true,"name":"b.img","offset":512,"priority":5,"#,
-    r#""provsize":4096,"state":"SYNCHRONIZING","syncid":4}],"flags":3,"genid":3,"#,
+// Two such mirrors, as the program's own words show them; the second has an INACTIVE image too.
+const SHOWN: &str = concat!(
+    r#"{"mirrors":[{"all":2,"balance":"round-robin","components":[{"did":2,"flags":[],"#,
+    r#""hardcoded":false,"name":"a.img","offset":0,"priority":0,"provsize":2048,"#,
+    r#""state":"ACTIVE","syncid":4},{"did":1,"flags":["SYNCHRONIZING","FORCE_SYNC"],"#,
+    r#""hardcoded":true,"name":"b.img","offset":512,"priority":5,"provsize":4096,"#,
+    r#""state":"SYNCHRONIZING","syncid":4}],"flags":["NOAUTOSYNC","NOFAILSYNC"],"genid":3,"#,
     r#""mediasize":1536,"mid":8,"name":"gm0","slice":8192,"state":"DEGRADED","syncid":4},"#,
-    r#"{"all":1,"balance":"load","components":[{"did":1,"flags":0,"hardcoded":false,"#,
-    r#""name":"c.img","offset":0,"priority":0,"provsize":2048,"state":"ACTIVE","syncid":1}],"#,
-    r#""flags":0,"genid":0,"mediasize":1536,"mid":7,"name":"gm1","slice":4096,"#,
-    r#""state":"COMPLETE","syncid":1}]"#
+    r#"{"all":2,"balance":"load","components":[{"did":1,"flags":[],"hardcoded":false,"#,
+    r#""name":"c.img","offset":0,"priority":0,"provsize":2048,"state":"ACTIVE","syncid":1},"#,
+    r#"{"did":2,"flags":["INACTIVE"],"hardcoded":false,"name":"d.img","offset":0,"#,
+    r#""priority":0,"provsize":2048,"state":"INACTIVE","syncid":1}],"flags":[],"genid":0,"#,
+    r#""mediasize":1536,"mid":7,"name":"gm1","slice":4096,"state":"DEGRADED","syncid":1}]}"#
+);
+
+// How many sectors each of these components holds.
+const HELD: &str = concat!(
+    r#"{"mirrors":[{"components":[{"name":"a.img","of":3,"sectors":3,"state":"ACTIVE"},"#,
+    r#"{"name":"b.img","of":3,"sectors":1,"state":"SYNCHRONIZING"}],"name":"gm0","#,
+    r#""state":"DEGRADED"},{"components":[{"name":"c.img","of":3,"sectors":3,"#,
+    r#""state":"ACTIVE"},{"name":"d.img","of":3,"sectors":0,"state":"INACTIVE"}],"#,
+    r#""name":"gm1","state":"DEGRADED"}]}"#
 );
 
 const CHECK: &str = concat!(
@@ -266,11 +279,35 @@ fn a_mirror_is_told_by_its_name(rt: HostRuntime) {
     must_tell(&rt, &two_mirrors(&rt), MIRROR);
 }
 
+// The same mirrors, the second with an INACTIVE image too.
+fn with_inactive(rt: &(impl Abort + AllocGlobal)) -> State {
+    let (first, second) = (label(rt, "gm0"), label(rt, "gm1"));
+    let two = Mirror {
+        all: 2,
+        ..new_mirror(second)
+    };
+    let inactive = Component {
+        did: 2,
+        disk: Disk::Inactive,
+        ..new_component(second, label(rt, "d.img"))
+    };
+    let components = [
+        inactive,
+        new_component(second, label(rt, "c.img")),
+        target(first, label(rt, "b.img")),
+        source(first, label(rt, "a.img")),
+    ];
+    state_of(rt, &[two, copied_mirror(first)], &components)
+}
+
 #[test]
-fn all_mirrors_are_told(rt: HostRuntime) {
+fn all_mirrors_are_shown(rt: HostRuntime) {
     let none = State::empty(rt.alloc());
-    must_be(&rt, list_json(rt.alloc(), &none), "[]");
-    must_be(&rt, list_json(rt.alloc(), &two_mirrors(&rt)), LIST);
+    must_be(&rt, shown_json(rt.alloc(), &none), NO_STATUS);
+    must_be(&rt, held_json(rt.alloc(), &none), NO_STATUS);
+    let state = with_inactive(&rt);
+    must_be(&rt, shown_json(rt.alloc(), &state), SHOWN);
+    must_be(&rt, held_json(rt.alloc(), &state), HELD);
 }
 
 fn differs(provider: Label, sectors: u64, first: u64) -> Scrubbed {
@@ -444,4 +481,51 @@ fn what_fails_is_told(rt: HostRuntime) {
         must_be(&rt, error_json(rt.alloc(), message), text);
     }
     must_be(&rt, fault_json(rt.alloc(), 4), r#"{"fault":4}"#);
+}
+
+#[test]
+fn a_command_is_answered_under_its_key(rt: HostRuntime) {
+    let copied = Reply::Copied { held: 3, total: 4 };
+    let done = keyed_done_json(rt.alloc(), "k1", 17, Reply::Plain);
+    must_be(&rt, done, r#"{"answer":"ok","key":"k1","seq":17}"#);
+    let done = keyed_done_json(rt.alloc(), "k2", u64::MAX, copied);
+    let text = r#"{"answer":"ok","copied":3,"key":"k2","of":4,"seq":18446744073709551615}"#;
+    must_be(&rt, done, text);
+    let repeated = keyed_repeated_json(rt.alloc(), "k1", 17);
+    must_be(
+        &rt,
+        repeated,
+        r#"{"answer":"repeated","key":"k1","seq":17}"#,
+    );
+    let refused = keyed_refused_json(rt.alloc(), "?", 2);
+    must_be(&rt, refused, r#"{"answer":"refused","key":"?","number":2}"#);
+    let fault = keyed_fault_json(rt.alloc(), "k3", 4);
+    must_be(&rt, fault, r#"{"answer":"fault","key":"k3","number":4}"#);
+}
+
+#[test]
+fn a_command_that_is_not_done_is_told(rt: HostRuntime) {
+    let unlike = [Unlike {
+        provider: label(&rt, "b.img"),
+        standing: Standing::AnotherSize,
+    }];
+    let withheld = withheld_json(rt.alloc(), "k1", &unlike);
+    let text = concat!(
+        r#"{"answer":"not done","images":[{"image":"b.img","standing":"another size"}],"#,
+        r#""key":"k1"}"#
+    );
+    must_be(&rt, withheld, text);
+    let not_done = not_done_json(rt.alloc(), "k1");
+    must_be(&rt, not_done, r#"{"answer":"not done","key":"k1"}"#);
+}
+
+#[test]
+fn a_recovery_is_told(rt: HostRuntime) {
+    must_be(&rt, recovered_json(rt.alloc(), 2), r#"{"recovered":2}"#);
+    let without = recovered_without_json(rt.alloc(), "ok", "k5", 2, 9);
+    must_be(
+        &rt,
+        without,
+        r#"{"answer":"ok","key":"k5","recovered":2,"seq":9}"#,
+    );
 }

@@ -5,12 +5,13 @@ use Rattle.std.specs.String.{string_bytes}
 use Rattle.gm_metadata.specs.Images.{Image, Sizes}
 use Rattle.gm_state.specs.Records.{Records}
 use Rattle.gm_looks.specs.Scrubs.{IsScrub}
-use Rattle.gm_looks.specs.Unlikes.{IsUnlike}
+use Rattle.gm_looks.specs.Unlikes.{IsUnlike, is_meant}
 use Rattle.gm_looks.specs.declared.scrub.Flaw.{Flaw}
 use Rattle.gm_looks.specs.declared.scrub.Flaw.TheVariants.{Uncompared, Differs}
 use Rattle.gm_looks.specs.declared.scrub.Scrubbed.{Scrubbed}
+use Rattle.gm_looks.specs.declared.unlike.Meant.TheVariants.{All}
 use Rattle.gm_looks.specs.declared.unlike.Unlike.{Unlike}
-use Rattle.gm_unlike.specs.Checkups.{is_any, is_well}
+use Rattle.gm_unlike.specs.Checkups.{is_well}
 use Rattle.gm_unlike.specs.Texts.{unlike_line}
 use Rattle.gm_unlike.specs.declared.checkup.Checkup.{Checkup}
 use Rattle.gm_json.specs.Audits.{scrub_json}
@@ -98,18 +99,18 @@ pub record IsScrubReport (flaws : List Scrubbed) (form : Form) (report : Report)
 
 -- what is amiss of these images: how they stand, and if that is asked for their data
 pub record AreAmiss (checking : Checking) (s : Records) (size : Sizes) (seen : Image)
-    (others : List Unlike) (apart : List Scrubbed) : Type 0 where
-  pub unlike : IsUnlike is_any s size seen others
-  pub compared : checking.compares ≡ true → IsScrub s size seen None apart
-  pub unasked : checking.compares ≡ false → apart ≡ []
+    (list : List Unlike) (flaws : List Scrubbed) : Type 0 where
+  pub unlike : IsUnlike (is_meant All) s size seen list
+  pub compared : checking.compares ≡ true → IsScrub s size seen None flaws
+  pub unasked : checking.compares ≡ false → flaws ≡ []
 
 -- a report of these records, and of these images
-pub record IsCheckOf (checking : Checking) (whole : Whole) (long : ℕ) (size : Sizes)
+pub record IsCheckOf (checking : Checking) (whole : Whole) (length_of : ℕ) (size : Sizes)
     (seen : Image) (report : Report) : Type 0 where
   pub found : Checkup
   pub state : found.state.now ≡ whole.loaded.state
   pub amiss : AreAmiss checking whole.loaded.state size seen found.unlike.now found.flaws.now
   pub pending : found.pending ≡ length whole.loaded.intents.items
   pub commands : found.commands ≡ whole.accepted
-  pub bytes : found.bytes ≡ long
+  pub bytes : found.bytes ≡ length_of
   pub told : IsChecked found checking.form report

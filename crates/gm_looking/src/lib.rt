@@ -2,7 +2,8 @@
 //! bench whose images are held against its records or each other.
 //!
 //! `taste.rt` says what the images of a folder tell, `read_only.rt` has the commands that show a
-//! registry as it stands (`specs/Looks.antt` says how they end), and `comparing.rt` compares data.
+//! registry as it stands (`specs/Looks.antt` says how they end), with `pending.rt` for what is
+//! pending as JSON, and `comparing.rt` compares data.
 //! `checking.rt` looks at all of it at once, and `checked.rt` tells what was found
 //! (`specs/Checks.antt`). `flaws.rt` has the lines of data that differ.
 #![tactic(auto)]
@@ -11,6 +12,7 @@ mod checked;
 mod checking;
 mod comparing;
 mod flaws;
+mod pending;
 mod read_only;
 mod taste;
 

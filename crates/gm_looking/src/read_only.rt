@@ -7,7 +7,8 @@ ghost use Rattle.gm_reports.specs.Reports.{IsDone};
 ghost use Rattle.gm_looking.specs.Looks.{MayShow};
 
 use crate::checked::push_pending;
-use gm_command_line::Look;
+use crate::pending::{pending_as_json, pending_as_json_on};
+use gm_command_line::{Form, Look};
 use gm_faults::Fault;
 use gm_looks::{audit_shelf, pending_text, pending_text_on};
 use gm_process::{HeldFolder, Patience, Place, Status, Streams};
@@ -112,11 +113,15 @@ pub(crate) fn images_at<I, O, E>(
 pub fn show_pending<I, O: Write, E>(
     rt: &HostRuntime,
     registry: &str,
+    form: Form,
     patience: Patience,
     streams: &mut Streams<'_, I, O, E>,
 ) -> Result<Status, Fault> {
     let records = records_at(rt, registry, patience, streams)?.loaded;
-    let report = pending_report(rt.alloc(), &records.intents)?;
+    let report = match form {
+        Form::Text => pending_report(rt.alloc(), &records.intents)?,
+        Form::Json => pending_as_json(rt.alloc(), &records.intents)?,
+    };
     streams.output.write_all(report.text.as_bytes())?;
     Ok(report.status)
 }
@@ -125,13 +130,19 @@ pub fn show_pending<I, O: Write, E>(
 pub fn show_pending_at<I, O: Write, E>(
     rt: &HostRuntime,
     place: Place<'_>,
+    form: Form,
     patience: Patience,
     streams: &mut Streams<'_, I, O, E>,
 ) -> Result<Status, Fault> {
     let _held = hold(rt, place.folder, patience, streams)?;
     let records = records_at(rt, place.registry, patience, streams)?.loaded;
     let mut shelf = images_at(rt, place, streams)?;
-    let report = pending_report_on(rt.alloc(), &records, &mut shelf);
+    let report = match form {
+        Form::Text => pending_report_on(rt.alloc(), &records, &mut shelf),
+        Form::Json => {
+            pending_as_json_on(rt.alloc(), &records.state, &records.intents, &mut shelf)
+        }
+    };
     streams.explaining.failure = shelf.last_failure();
     let report = report?;
     streams.output.write_all(report.text.as_bytes())?;

@@ -1,5 +1,7 @@
 //! How far a long work is, told on the complaints.
 
+use crate::amount::{Amount, Portion, SECTOR};
+use crate::terminal_width::terminal_columns;
 use gm_apply::Watch;
 use gm_metadata::Label;
 use std::io::Write;
@@ -10,17 +12,17 @@ use std::time::{Duration, Instant};
 pub enum Style {
     /// Not at all.
     Quiet,
-    /// A line at each ten per cent.
+    /// A line at each ten per cent, but only one a second; and a line when all is done.
     Lines,
-    /// One line of at most 39 columns, which is written over again.
+    /// One line, which is written over again, and which is no wider than the terminal.
     Bar,
 }
 
-// How wide a bar may be, in columns.
-const WIDTH: usize = 39;
+// How long a bar stays at least, in milliseconds.
+const BAR_STAYS: u64 = 100;
 
-// How long a bar stands at least, in milliseconds.
-const STANDS: u64 = 100;
+// How long it takes at least from one line to the next, in milliseconds.
+const LINE_AFTER: u64 = 1000;
 
 // What is under way: an image, how many sectors it had when it was told of first, and when.
 #[derive(Clone, Copy)]
@@ -38,26 +40,39 @@ pub struct Meter<'a, E> {
     /// What it is told on, which also takes lines of whoever has the meter.
     pub complaints: &'a mut E,
     style: Style,
+    columns: usize,
     under_way: Option<UnderWay>,
     shown: Option<Instant>,
 }
 
-// How many tenths a part is of the whole.
-fn tenths(part: u64, whole: u64) -> u64 {
-    part.saturating_mul(10) / whole.max(1)
+// How many parts of so many a part is of the whole: with 100, per cents.
+fn parts(of: u64, part: u64, whole: u64) -> u64 {
+    part.saturating_mul(of) / whole.max(1)
 }
 
-// A time in minutes and seconds.
-fn push_time(text: &mut String, seconds: u64) -> bool {
-    let minutes = seconds / 60;
-    let seconds = seconds % 60;
-    write!(text, " {minutes}:{seconds:02}").is_ok()
+// How many bytes these sectors have.
+fn bytes(sectors: u64) -> u64 {
+    sectors.saturating_mul(SECTOR)
 }
 
-// Adds a field, if the line is then not too wide.
-fn push_field(line: &mut String, field: &str) {
-    if line.len().saturating_add(field.len()) <= WIDTH {
-        let _ = line.push_str(field);
+// How long ago that was, in milliseconds, and 1 at least.
+fn milliseconds_since(rt: &HostRuntime, since: Instant) -> Option<u64> {
+    let gone = since.elapsed(rt).ok()?;
+    let seconds = gone.as_secs().saturating_mul(1000);
+    Some(
+        seconds
+            .saturating_add(u64::from(gone.subsec_millis()))
+            .max(1),
+    )
+}
+
+// Whether so many milliseconds are over at a moment, from another one on if there is one.
+fn are_over(milliseconds: u64, now: Instant, since: Option<Instant>) -> bool {
+    match since {
+        Some(since) => {
+            now.saturating_duration_since(since) >= Duration::from_millis(milliseconds)
+        }
+        None => true,
     }
 }
 
@@ -68,6 +83,7 @@ impl<'a, E: Write> Meter<'a, E> {
             rt,
             complaints,
             style,
+            columns: terminal_columns(rt),
             under_way: None,
             shown: None,
         }
@@ -86,57 +102,100 @@ impl<'a, E: Write> Meter<'a, E> {
         }
     }
 
-    // How fast it is, in MiB a second, and how many seconds are left.
+    // Adds a field to a line, if the line is then not too wide.
+    fn push_field(&self, line: &mut String, field: &str) {
+        let wide = line.len().saturating_add(field.len()).saturating_add(1);
+        if wide <= self.columns {
+            let _ = line.push_str(" ");
+            let _ = line.push_str(field);
+        }
+    }
+
+    // How many seconds are left, and how fast it is, if anything of it was done.
     fn push_speed(&self, line: &mut String, known: &UnderWay, part: u64, whole: u64) {
         let Some(since) = known.since else {
             return;
         };
-        let Ok(gone) = since.elapsed(self.rt) else {
+        let Some(gone) = milliseconds_since(self.rt, since) else {
             return;
         };
-        let seconds = gone.as_secs().saturating_mul(1000);
-        let gone = seconds
-            .saturating_add(u64::from(gone.subsec_millis()))
-            .max(1);
         let done = part.saturating_sub(known.first);
-        let left = whole.saturating_sub(part);
+        if done == 0 {
+            return;
+        }
         let alloc = self.rt.alloc();
-        let mut time = String::new(alloc);
-        if done > 0 && push_time(&mut time, left.saturating_mul(gone) / done.max(1) / 1000) {
-            push_field(line, time.as_str());
+        let left = whole.saturating_sub(part).saturating_mul(gone) / done.max(1) / 1000;
+        let (minutes, seconds) = (left / 60, left % 60);
+        if let Ok(left) = format!(in alloc; "{minutes}:{seconds:02} left") {
+            self.push_field(line, left.as_str());
         }
-        let speed = done.saturating_mul(1000) / gone.saturating_mul(2048).max(1);
-        if let Ok(speed) = format!(in alloc; " {speed} MiB/s") {
-            push_field(line, speed.as_str());
+        let rate = Amount(bytes(done).saturating_mul(1000) / gone.max(1));
+        if let Ok(rate) = format!(in alloc; "{rate}/s") {
+            self.push_field(line, rate.as_str());
         }
+    }
+
+    // The line of a bar: the image and the per cents, and as many fields more as there is room for.
+    fn bar_line(&self, known: &UnderWay, part: u64, whole: u64) -> Option<String> {
+        let alloc = self.rt.alloc();
+        let image = known.image;
+        let percent = parts(100, part, whole);
+        let mut line = format!(in alloc; "{image} {percent}%").ok()?;
+        let portion = Portion {
+            bytes: bytes(part),
+            whole: bytes(whole),
+        };
+        let portion = format!(in alloc; "{portion}").ok()?;
+        self.push_field(&mut line, portion.as_str());
+        self.push_speed(&mut line, known, part, whole);
+        Some(line)
     }
 
     fn show_bar(&mut self, known: &UnderWay, part: u64, whole: u64) {
         let Ok(now) = Instant::now(self.rt) else {
             return;
         };
-        if let Some(shown) = self.shown {
-            if now.saturating_duration_since(shown) < Duration::from_millis(STANDS) {
-                return;
-            }
+        if !are_over(BAR_STAYS, now, self.shown) {
+            return;
         }
-        let image = known.image;
-        let Ok(mut line) = format!(in self.rt.alloc(); "{image} {part} of {whole}") else {
+        let Some(line) = self.bar_line(known, part, whole) else {
             return;
         };
-        self.push_speed(&mut line, known, part, whole);
-        let _ = write!(self.complaints, "\r{line}\x1b[K");
+        // It is cleared first: a terminal that clears after a full line would take its end away.
+        let _ = write!(self.complaints, "\r\x1b[K{line}");
         let _ = self.complaints.flush();
         self.shown = Some(now);
     }
 
-    fn show_line(&mut self, known: &UnderWay, part: u64, whole: u64) {
-        let now = tenths(part, whole);
-        if known.tenths < now {
-            let image = known.image;
-            let percent = now.saturating_mul(10);
-            let _ = writeln!(self.complaints, "{image} {percent} %: {part} of {whole}");
+    // Whether it is time for a line, from the last one on, or else from the image's beginning on.
+    fn line_is_due(&self, known: &UnderWay, now: Option<Instant>) -> bool {
+        let since = match self.shown {
+            Some(shown) => Some(shown),
+            None => known.since,
+        };
+        match now {
+            Some(now) => are_over(LINE_AFTER, now, since),
+            None => false,
         }
+    }
+
+    fn show_line(&mut self, known: &UnderWay, part: u64, whole: u64) {
+        let tenths = parts(10, part, whole);
+        if tenths <= known.tenths {
+            return;
+        }
+        let now = Instant::now(self.rt).ok();
+        if part < whole && !self.line_is_due(known, now) {
+            return;
+        }
+        let image = known.image;
+        let percent = tenths.saturating_mul(10);
+        let portion = Portion {
+            bytes: bytes(part),
+            whole: bytes(whole),
+        };
+        let _ = writeln!(self.complaints, "{image} {percent}%: {portion}");
+        self.shown = now;
     }
 
     /// Tells that so many sectors of an image are done, of so many.
@@ -151,13 +210,13 @@ impl<'a, E: Write> Meter<'a, E> {
             image: known.image,
             first: known.first,
             since: known.since,
-            tenths: tenths(part, whole),
+            tenths: parts(10, part, whole),
         });
     }
 
     /// Takes a bar away.
     pub fn end(&mut self) {
-        if self.shown.is_some() {
+        if self.style == Style::Bar && self.shown.is_some() {
             let _ = self.complaints.write_all(b"\r\x1b[K");
             let _ = self.complaints.flush();
         }

@@ -11,11 +11,13 @@ use gm_by_itself::{adopt_all, hand_in_by_itself};
 use gm_command_line::Work;
 use gm_faults::Fault;
 use gm_filling::fill_components;
-use gm_handing_in::{Lines, hand_in, hand_in_lines_of, hand_in_one, serve};
+use gm_handing_in::{Lines, One, hand_in, hand_in_lines_of, hand_in_one, serve};
 use gm_looking::scrub;
 use gm_process::{Status, Streams};
+use gm_replacing::replace;
 use gm_reports::{Report, audit_report, list_report, status_report};
 use gm_shelf::Shelf;
+use gm_writing::write_data;
 use sqlite::Alter;
 use std::alloc::Global;
 use std::io::{BufRead, Write};
@@ -44,7 +46,9 @@ pub fn perform<S: Alter, H: Shelf, I: BufRead, O: Write, E: Write>(
 {
     let alloc = rt.alloc();
     match *work {
-        Work::Recover | Work::RecoverWithout { .. } => { Ok(recovered(alloc, bench.redone())?) }
+        Work::Recover(form) | Work::RecoverWithout { form, .. } => {
+            Ok(recovered(alloc, bench.redone(), form)?)
+        }
         Work::Status(form) => {
             let state = bench.view(alloc)?;
             Ok(status_report(alloc, &state, form)?)
@@ -58,8 +62,19 @@ pub fn perform<S: Alter, H: Shelf, I: BufRead, O: Write, E: Write>(
             Ok(audit_report(alloc, &names, form)?)
         }
         Work::Scrub(comparing) => scrub(rt, comparing, bench, streams),
-        Work::Do { key, words, checks } => {
-            let status = hand_in_one(rt, key, words, checks, bench, streams)?;
+        Work::Do {
+            key,
+            words,
+            checks,
+            form,
+        } => {
+            let one = One {
+                key,
+                words,
+                checks,
+                form,
+            };
+            let status = hand_in_one(rt, one, bench, streams)?;
             Ok(told(alloc, status))
         }
         Work::Command(single) => {
@@ -70,6 +85,11 @@ pub fn perform<S: Alter, H: Shelf, I: BufRead, O: Write, E: Write>(
             let status = adopt_all(rt, checks, bench, streams)?;
             Ok(told(alloc, status))
         }
+        Work::Replace(ref replacing) => {
+            let status = replace(rt, replacing, bench, streams)?;
+            Ok(told(alloc, status))
+        }
+        Work::Write(ref writing) => write_data(rt, writing, bench, streams),
         Work::Batch {
             audits: false,
             stops: false,

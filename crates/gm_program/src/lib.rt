@@ -6,7 +6,7 @@
 //! the environment. What is done at a bench, by `bench_command.rt`, is done in the folder and with
 //! the registry that `place.rt` opens and closes (`specs/Ends.antt` says how it ends); `recover.rt`
 //! has the command `recover`. The other commands stand in crates of their own: `gm_dump`,
-//! `gm_looking`, `gm_filling` and `gm_handing_in`.
+//! `gm_looking`, `gm_filling`, `gm_handing_in` and `gm_writing`.
 #![tactic(auto)]
 
 mod bench_command;

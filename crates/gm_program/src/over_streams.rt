@@ -3,15 +3,18 @@
 use crate::place::{Terms, work_at};
 use clap::Error;
 use clap::error::ErrorKind;
-use gm_command_line::{Asked, Job, Reading, Work, asked_of};
+use gm_bench::BenchFault;
+use gm_command_line::{Asked, Job, Reading, Work, asked_of, tip_for};
 use gm_dump::dump;
 use gm_faults::{Fault, explain_fault};
 use gm_looking::{check_place, look_at, show_pending, show_pending_at, taste_folder};
 use gm_process::{Environment, Patience, Place, Status, Streams};
 use std::io::{BufRead, Write};
 
-// Prints what clap has to say, on the stream where it belongs.
+// Prints what clap has to say of words, on the stream where it belongs, and a tip after a
+// complaint.
 fn print_error<O: Write, E: Write>(
+    words: &[&str],
     error: &Error,
     output: &mut O,
     complaints: &mut E,
@@ -21,6 +24,9 @@ fn print_error<O: Write, E: Write>(
     }
     if error.use_stderr() {
         write!(complaints, "{error}")?;
+        if let Some(tip) = tip_for(words) {
+            writeln!(complaints, "{tip}")?;
+        }
         return Ok(Status::Words);
     }
     write!(output, "{error}")?;
@@ -51,11 +57,13 @@ fn perform<I: BufRead, O: Write, E: Write>(
         Job::Pending {
             registry,
             folder: None,
-        } => show_pending(rt, registry, patience, streams),
+            form,
+        } => show_pending(rt, registry, form, patience, streams),
         Job::Pending {
             registry,
             folder: Some(folder),
-        } => show_pending_at(rt, Place { registry, folder }, patience, streams),
+            form,
+        } => show_pending_at(rt, Place { registry, folder }, form, patience, streams),
         Job::LookAt {
             look,
             registry,
@@ -73,7 +81,11 @@ fn perform<I: BufRead, O: Write, E: Write>(
         } => {
             streams.explaining.wanted |= matches!(
                 *work,
-                Work::Do { .. } | Work::Command(_) | Work::AdoptAll(_)
+                Work::Do { .. }
+                    | Work::Command(_)
+                    | Work::AdoptAll(_)
+                    | Work::Replace(_)
+                    | Work::Write(_)
             );
             streams.explaining.folder = String::from_str(rt.alloc(), folder)?;
             let terms = Terms {
@@ -91,19 +103,33 @@ fn run<I: BufRead, O: Write, E: Write>(
     streams: &mut Streams<'_, I, O, E>,
 ) -> Result<Status, Fault> {
     let environment = Environment::find(rt)?;
-    let done = match asked_of(rt.alloc(), words, environment.settings()) {
+    let done = match asked_of(rt.alloc(), &*words, environment.settings()) {
         Ok(Reading::Asked(asked)) => perform(rt, &asked, streams),
         Ok(Reading::Handed(handed)) => {
             let asked = handed.asked();
             perform(rt, &asked, streams)
         }
-        Err(error) => print_error(&error, streams.output, streams.complaints),
+        Err(error) => print_error(words, &error, streams.output, streams.complaints),
     };
     // What was printed before a fault is to be seen as well.
     let flushed = streams.output.flush();
     let status = done?;
     flushed?;
     Ok(status)
+}
+
+// Says how to go on without an image that a pending write needs.
+fn say_way_on<I, O, E: Write>(streams: &mut Streams<'_, I, O, E>, fault: &Fault) {
+    let Fault::Bench(fault) = fault else {
+        return;
+    };
+    if let (BenchFault::Absent(image), true) = (fault, streams.explaining.wanted) {
+        let number = fault.number();
+        let _ = writeln!(
+            streams.complaints,
+            "F{number}: put it back, or recover --without {image} --key KEY gives it up"
+        );
+    }
 }
 
 /// Runs the program on its words, without its own name, and answers how it ends. The environment
@@ -126,6 +152,7 @@ where
         Err(fault) => {
             let _ = writeln!(streams.complaints, "{fault}");
             explain_fault(rt.alloc(), streams, &fault);
+            say_way_on(streams, &fault);
             Status::Fault
         }
     }

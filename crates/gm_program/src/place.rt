@@ -8,7 +8,7 @@ ghost use Rattle.gm_program.specs.Ends.{MayEnd};
 use crate::bench_command::perform;
 use crate::recover::{recovered_without, refused_without};
 use gm_bench::{Bench, BenchFault, Without};
-use gm_command_line::Work;
+use gm_command_line::{Form, Work};
 use gm_faults::{Fault, explain_loss};
 use gm_metadata::Label;
 use gm_process::{HeldFolder, Patience, Place, Status, Streams};
@@ -30,6 +30,7 @@ fn without<S: Alter + Drop, I, O, E: Write>(
     shelf: FileShelf<HostRuntime>,
     provider: Label,
     key: &str,
+    form: Form,
     streams: &mut Streams<'_, I, O, E>,
 ) -> Result<(Result<Report, Fault>, Connection<S>), BenchFault>
     requires { store.in_transaction ≡ false }
@@ -37,13 +38,13 @@ fn without<S: Alter + Drop, I, O, E: Write>(
 {
     match Bench::open_without(alloc, store, shelf, provider, key) {
         Ok(Without::Opened { bench, answer }) => {
-            let report = recovered_without(alloc, key, answer, bench.redone());
+            let report = recovered_without(alloc, key, answer, bench.redone(), form);
             let (store, _) = bench.close();
             Ok((report.map_err(Fault::from), store))
         }
         Ok(Without::Refused { why, store, .. }) => {
             explain_loss(alloc, streams, key, provider, why);
-            let report = refused_without(alloc, key, why);
+            let report = refused_without(alloc, key, why, form);
             Ok((report.map_err(Fault::from), store))
         }
         Err(e) => {
@@ -93,9 +94,11 @@ fn at_bench<S: Alter + Drop, I: BufRead, O: Write, E: Write>(
         return Err(BenchFault::Store);
     }
     match *work {
-        Work::RecoverWithout { provider, key } => {
-            without(rt.alloc(), store, shelf, provider, key, streams)
-        }
+        Work::RecoverWithout {
+            provider,
+            key,
+            form,
+        } => without(rt.alloc(), store, shelf, provider, key, form, streams),
         _ => worked(rt, store, shelf, work, streams),
     }
 }

@@ -1,7 +1,7 @@
 //! The commands `status` and `list`, which show mirrors.
 
 ghost use Rattle.std.specs.Prelude.{IfOk};
-ghost use Rattle.gm_json.specs.Mirrors.{list_json, status_json};
+ghost use Rattle.gm_json.specs.Shown.{held_json, shown_json};
 ghost use Rattle.gm_words.specs.Listing.{list_text};
 ghost use Rattle.gm_words.specs.Status.{status_text};
 ghost use Rattle.gm_reports.specs.Reports.{IsDone, in_form};
@@ -9,7 +9,7 @@ ghost use Rattle.gm_reports.specs.Reports.{IsDone, in_form};
 use crate::json_line::as_line;
 use crate::report::Report;
 use gm_command_line::Form;
-use gm_json::{list_json, status_json};
+use gm_json::{held_json, shown_json};
 use gm_process::Status;
 use gm_state::State;
 use gm_words::{list_text, status_text};
@@ -18,11 +18,11 @@ use std::alloc::{AllocError, Global};
 /// Says how the mirrors stand.
 pub fn status_report(alloc: Global, state: &State, form: Form) -> Result<Report, AllocError>
     ensures { IfOk result (IsDone
-        (in_form form (status_text state.now) (status_json state.now))) }
+        (in_form form (status_text state.now) (held_json state.now))) }
 {
     let text = match form {
         Form::Text => status_text(alloc, state)?,
-        Form::Json => as_line(status_json(alloc, state)?)?,
+        Form::Json => as_line(held_json(alloc, state)?)?,
     };
     Ok(Report {
         status: Status::Done,
@@ -32,11 +32,11 @@ pub fn status_report(alloc: Global, state: &State, form: Form) -> Result<Report,
 
 /// Says all that is known of the mirrors.
 pub fn list_report(alloc: Global, state: &State, form: Form) -> Result<Report, AllocError>
-    ensures { IfOk result (IsDone (in_form form (list_text state.now) (list_json state.now))) }
+    ensures { IfOk result (IsDone (in_form form (list_text state.now) (shown_json state.now))) }
 {
     let text = match form {
         Form::Text => list_text(alloc, state)?,
-        Form::Json => as_line(list_json(alloc, state)?)?,
+        Form::Json => as_line(shown_json(alloc, state)?)?,
     };
     Ok(Report {
         status: Status::Done,

@@ -1,17 +1,12 @@
 -- When all is well.
 use Rattle.std.specs.Prelude.{◌==◌, ◌&&◌, Bool, true, false, length}
 use Rattle.std.specs.List.{list_all}
-use Rattle.gm_state.specs.declared.records.Component.{Component}
 use Rattle.gm_state.specs.declared.records.Mirror.{Mirror}
 use Rattle.gm_state.specs.declared.states.MirrorState.{MirrorState}
 use Rattle.gm_state.specs.declared.states.MirrorState.TheVariants.{Complete, Degraded}
 use Rattle.gm_state.specs.Records.{Records, members}
 use Rattle.gm_state.specs.States.{state_among}
 use Rattle.gm_unlike.specs.declared.checkup.Checkup.{Checkup}
-
--- each component is looked at
-abbrev pub is_any : Component → Bool
-is_any k = true
 
 abbrev pub is_complete : MirrorState → Bool
 is_complete Complete = true

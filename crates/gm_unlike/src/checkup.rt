@@ -4,8 +4,9 @@ ghost use Rattle.std.specs.Prelude.{◌≡◌, [], IfOk, None, false, true};
 ghost use Rattle.std.specs.List.{list_all};
 ghost use Rattle.gm_shelf.specs.Keeping.{Looks};
 ghost use Rattle.gm_looks.specs.Scrubs.{IsScrub};
-ghost use Rattle.gm_looks.specs.Unlikes.{IsUnlike};
-ghost use Rattle.gm_unlike.specs.Checkups.{is_any, is_complete_in, is_well};
+ghost use Rattle.gm_looks.specs.Unlikes.{IsUnlike, is_meant};
+ghost use Rattle.gm_looks.specs.declared.unlike.Meant.TheVariants.{All};
+ghost use Rattle.gm_unlike.specs.Checkups.{is_complete_in, is_well};
 
 use gm_apply::Watch;
 use gm_looks::{Meant, Scrubbed, Unlike, scrub_shelf, unlike_shelf};
@@ -40,10 +41,7 @@ pub struct Checkup<'a> {
 fn is_complete_in(state: &State, mirror: &Mirror) -> bool
     ensures { result ≡ is_complete_in state.now mirror.now }
 {
-    match mirror_state(state, mirror) {
-        MirrorState::Complete => true,
-        MirrorState::Degraded => false,
-    }
+    matches!(mirror_state(state, mirror), MirrorState::Complete)
 }
 
 // Whether that is so of each of these mirrors.
@@ -96,7 +94,8 @@ pub fn amiss_shelf<H: Shelf, W: Watch>(
     watch: &mut W,
 ) -> Result<Amiss, ShelfFault>
     ensures unlike { H.honest shelf.old → IfOk result (λ amiss.
-        IsUnlike is_any state.now (H.size shelf.old) (H.view shelf.old).seen amiss.unlike.items) }
+        IsUnlike (is_meant All) state.now (H.size shelf.old) (H.view shelf.old).seen
+        amiss.unlike.items) }
     ensures scrub { H.honest shelf.old → compares ≡ true → IfOk result (λ amiss.
         IsScrub state.now (H.size shelf.old) (H.view shelf.old).seen None amiss.flaws.items) }
     ensures unasked { compares ≡ false → IfOk result (λ amiss. amiss.flaws.items ≡ []) }

@@ -6,7 +6,7 @@
 fresh_bench synced
 batch "$label$insert"
 at_bench sync
-expect 'a component is filled' 0 "$(lines 'gm0 a.img ACTIVE\ngm0 b.img ACTIVE')" 'b.img 100 %: 3 of 3'
+expect 'a component is filled' 0 "$(lines 'gm0 a.img ACTIVE\ngm0 b.img ACTIVE')" 'b.img 100%: 1.5 of 1.5 KiB'
 at_bench status
 expect 'a status of it' 0 "$of_filled" ''
 expect_same_data 'it has the data' "$bench/images/a.img" "$bench/images/b.img" 1536
@@ -47,7 +47,7 @@ at_bench sync
 expect 'names that were exchanged' 1 "$(lines 'a.img\nb.img')" "gm0 $passed_over"
 expect_kept 'nothing was written'
 at_bench sync --unchecked
-expect 'unless it is not to look' 0 "$(lines 'gm0 a.img ACTIVE\ngm0 b.img ACTIVE')" 'b.img 100 %: 3 of 3'
+expect 'unless it is not to look' 0 "$(lines 'gm0 a.img ACTIVE\ngm0 b.img ACTIVE')" 'b.img 100%: 1.5 of 1.5 KiB'
 
 # Another mirror's images don't matter if one is named.
 fresh_bench beside
@@ -55,7 +55,7 @@ put_image "$bench/images/c.img" c bare
 batch "$label${insert}k3 label --mid 8 --did 1 gm1 c.img\n"
 damage "$bench/images/c.img" 1600 x
 at_bench sync gm0
-expect 'an image of another mirror' 0 "$(lines 'gm0 a.img ACTIVE\ngm0 b.img ACTIVE')" 'b.img 100 %: 3 of 3'
+expect 'an image of another mirror' 0 "$(lines 'gm0 a.img ACTIVE\ngm0 b.img ACTIVE')" 'b.img 100%: 1.5 of 1.5 KiB'
 at_bench sync
 expect 'all mirrors' 1 "$(lines 'c.img\ngm0 a.img ACTIVE\ngm0 b.img ACTIVE')" "gm1 $passed_over"
 
@@ -69,7 +69,7 @@ cp "$work/zeros" "$bench/images/c.img"
 cp "$bench/images/d.img" "$work/d.img"
 at_bench sync
 expect 'a mirror with an image that was replaced' 1 "$(lines 'c.img\ngm0 a.img ACTIVE\ngm0 b.img ACTIVE')" \
-    "b.img 100 %: 3 of 3
+    "b.img 100%: 1.5 of 1.5 KiB
 gm1 $passed_over"
 expect_same_data 'the other mirror is filled' "$bench/images/a.img" "$bench/images/b.img" 1536
 expect_same 'the image that was replaced stays' "$bench/images/c.img" "$work/zeros"
@@ -88,7 +88,7 @@ expect 'a component that is STALE is named' 0 "$(lines 'gm0 a.img ACTIVE\ngm0 b.
     'b.img is STALE: rebuild lets it be filled'
 batch 'k3 rebuild gm0 b.img\n'
 at_bench sync
-expect 'behind a rebuild it is filled' 0 "$(lines 'gm0 a.img ACTIVE\ngm0 b.img ACTIVE')" 'b.img 100 %: 3 of 3'
+expect 'behind a rebuild it is filled' 0 "$(lines 'gm0 a.img ACTIVE\ngm0 b.img ACTIVE')" 'b.img 100%: 1.5 of 1.5 KiB'
 
 # ---- a registry that is nearly full
 
@@ -99,8 +99,7 @@ batch "$label$insert"
 if command -v sqlite3 >/dev/null; then
     put_accepted 2 99999
     at_bench sync
-    expect 'it is said before that the room may not do' 1 'refused 4' "this takes 2 commands, and the registry takes 1 more
-b.img 90 %: 256 of 257"
+    expect 'it is said before that the room may not do' 1 'refused 4' 'this takes 2 commands, and the registry takes 1 more'
     at_bench status
     expect 'what was filled stays so' 0 "$(whole_lines "$of_two" | sed 's/0 of 3/256 of 257/')" ''
     # What is passed over is told also if an advance of another mirror is refused.
@@ -156,22 +155,53 @@ done
 
 # ---- a bar at a terminal
 
+# Has an image whose name is as long as a name may be filled at a terminal of so many columns, with this in COLUMNS, or
+# with nothing of that name if it is `-`. What the bar shows is kept, a line each time.
+fill_at_terminal() {
+    batch "r$1-$2 rebuild gm0 fifteen-letters\n"
+    {
+        echo "stty columns $1"
+        [ "$2" = - ] && echo 'unset COLUMNS' || echo "export COLUMNS=$2"
+        echo "\"$gmbench\" sync --registry \"$registry\" --shelf \"$bench/images\""
+    } >"$work/typed"
+    script -qec "sh $work/typed" /dev/null </dev/null >"$work/terminal" 2>/dev/null
+    tr '\r' '\n' <"$work/terminal" | sed "s/$(printf '\033')\[K//g" | grep '^fifteen-letters ' >"$work/shown"
+}
+
+# Whether all that the bar shows has its fields, and so many columns at most. The per cents are always there.
+expect_bar() {
+    wide=$(awk -v most="$2" 'length > most' "$work/shown" | head -n 1)
+    other=$(grep -vx "$bar" "$work/shown" | head -n 1)
+    if [ -s "$work/shown" ] && [ -z "$wide$other" ]; then
+        pass "$1"
+    else
+        fail "$1" "too wide is '$wide', of another form '$other', in all '$(head -n 3 "$work/shown")'"
+    fi
+}
+bar='fifteen-letters [0-9]*%\( [0-9.]* of 4 MiB\)\{0,1\}\( [0-9]*:[0-9][0-9] left\)\{0,1\}\( [0-9.]* [KMG]iB/s\)\{0,1\}'
+
 if command -v script >/dev/null; then
-    for columns in 40 200; do
-        batch "r$columns rebuild gm0 s1.img\n"
-        printf 'stty columns %s; "%s" sync --registry "%s" --shelf "%s"\n' "$columns" "$gmbench" "$registry" \
-            "$bench/images" >"$work/typed"
-        script -qec "sh $work/typed" /dev/null </dev/null >"$work/terminal" 2>/dev/null
-        tr '\r' '\n' <"$work/terminal" | sed "s/$(printf '\033')\[K//g" >"$work/shown"
-        wide=$(awk 'length > 39' "$work/shown" | head -n 1)
-        if grep -q '^s1.img [0-9]* of 8192' "$work/shown" && [ -z "$wide" ]; then
-            pass "a bar in $columns columns"
-        else
-            fail "a bar in $columns columns" "'$wide', '$(head -n 3 "$work/shown")'"
-        fi
-        grep -q "$(printf '\r\033\[K')gm0 a.img ACTIVE" "$work/terminal" &&
-            pass 'it is taken away at the end' || fail 'it is taken away at the end' "$(tail -n 17 "$work/shown" | head -n 2)"
-    done
+    fresh_bench beside-a-bar
+    rm "$bench/images/b.img"
+    head -c 4194816 /dev/zero >"$bench/images/a.img"
+    cp "$bench/images/a.img" "$bench/images/fifteen-letters"
+    batch "${label}k2 insert --did 2 gm0 fifteen-letters\nk3 advance gm0 fifteen-letters\n"
+    while read -r columns told most; do
+        fill_at_terminal "$columns" "$told"
+        expect_bar "a bar in $columns columns, and COLUMNS is $told" "$most"
+    done <<'END'
+40 - 39
+200 - 39
+100 19 39
+100 501 39
+100 many 39
+20 20 20
+200 200 200
+END
+    grep -q '^fifteen-letters [0-9]*% [0-9.]* of 4 MiB' "$work/shown" && pass 'a wide one says how much is done' ||
+        fail 'a wide one says how much is done' "$(head -n 1 "$work/shown")"
+    grep -q "$(printf '\r\033\[K')gm0 a.img ACTIVE" "$work/terminal" && pass 'it is taken away at the end' ||
+        fail 'it is taken away at the end' "$(tail -n 3 "$work/terminal")"
 else
     skip 'a bar at a terminal' 'there is no script(1) here'
 fi

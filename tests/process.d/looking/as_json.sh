@@ -19,10 +19,13 @@ if has_python 'what is printed as JSON'; then
         fi
     }
     at_bench status --json
-    expect_json 'a status' 0 '[(c["name"], c["state"]) for c in j["mirrors"][0]["components"]]' \
-        "[('a.img', 'ACTIVE'), ('b.img', 'SYNCHRONIZING')]"
+    expect_json 'a status' 0 '[(c["name"], c["state"], c["sectors"], c["of"]) for c in j["mirrors"][0]["components"]]' \
+        "[('a.img', 'ACTIVE', 3, 3), ('b.img', 'SYNCHRONIZING', 0, 3)]"
     at_bench list --json
-    expect_json 'a list' 0 'j[0]["mid"], j[0]["mediasize"], [c["did"] for c in j[0]["components"]]' '7 1536 [1, 2]'
+    expect_json 'a list' 0 '[(m["mid"], m["mediasize"], [c["did"] for c in m["components"]]) for m in j["mirrors"]]' \
+        '[(7, 1536, [1, 2])]'
+    expect_json 'the flags of a list' 0 '[(m["flags"], [c["flags"] for c in m["components"]]) for m in j["mirrors"]]' \
+        "[([], [[], ['SYNCHRONIZING']])]"
     at_bench audit --json
     expect_json 'an audit' 0 'j' "{'amiss': []}"
     run dump --json --shelf "$bench/images" a.img

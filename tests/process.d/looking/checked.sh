@@ -42,7 +42,7 @@ at_bench check --data --quiet
 expect 'with equal data' 0 "$of_filled
 $(ending 4 1 "$well")" ''
 at_bench check --data
-[ "$status" = 0 ] && tail -n 1 "$work/complaints" | grep -qx 'b.img 100 %: 257 of 257' &&
+[ "$status" = 0 ] && tail -n 1 "$work/complaints" | grep -qx 'b.img 100%: 128.5 of 128.5 KiB' &&
     pass 'it says how far it is' || fail 'it says how far it is' "status $status, '$(cat "$work/complaints")'"
 mirrors='"mirrors":[{"components":[{"name":"a.img","state":"ACTIVE"},{"name":"b.img","state":"ACTIVE"}],"name":"gm0","state":"COMPLETE"}]'
 of_registry='"registry":{"bytes":'$(($(wc -c <"$registry")))',"commands":4,"commands_of":100000,"mirrors":1,"mirrors_of":64}'

@@ -64,6 +64,11 @@ try_bash() {
     expect_offered 'bash: an image that is given up' "$(in_bash recover --shelf images --without '')" 'a.img b.img'
     expect_offered 'bash: an image that is given up, behind =' "$(in_bash recover --shelf images --without =)" 'a.img b.img'
     expect_offered 'bash: an image to be filled' "$(in_bash sync --shelf images gm0 '')" 'a.img b.img'
+    expect_offered 'bash: an image to be replaced' "$(in_bash replace --shelf images gm0 '')" 'a.img b.img'
+    expect_offered 'bash: an image in its place' "$(in_bash replace --shelf images gm0 a.img b)" b.img
+    expect_offered 'bash: no image after it' "$(in_bash replace --shelf images gm0 a.img b.img a)" ''
+    expect_offered 'bash: a file with data' "$(in_bash write --first 2 --file '')" 'images other registry'
+    expect_offered 'bash: the options of a check after --data' "$(in_bash check --data --j)" --json
     (
         export GMBENCH_SHELF=images
         in_bash dump ''
@@ -120,6 +125,7 @@ try_bash() {
     expect_offered 'bash: no image of a forget' "$(in_bash do --shelf images k1 forget gm0 '')" ''
     expect_offered 'bash: the component of a priority' "$(in_bash do --shelf images k1 configure --prov '')" 'a.img b.img'
     expect_offered 'bash: the mirrors of a registry' "$(in_bash scrub $registered '')" 'gm0 gm1'
+    expect_offered 'bash: a mirror that data are written into' "$(in_bash write $registered --first 2 '')" 'gm0 gm1'
     expect_offered 'bash: a mirror that is begun' "$(in_bash do $registered k1 patch gm1)" gm1
     expect_offered 'bash: no mirror of a label' "$(in_bash do $registered k1 label gm)" ''
     expect_offered 'bash: the mirrors of the environment' "$(
@@ -184,7 +190,8 @@ else
     for line in 'dump --shelf images' 'dump --shelf=images' 'sync --shelf images gm0' 'recover --shelf images --without' \
         'do --shelf images k1 clear' 'do --shelf images k1 label gm0' 'do --shelf images k1 adopt gm0 a.img' \
         'do --shelf images k1 configure --prov' 'dump --shelf ~/images' 'clear --shelf images' 'label --shelf images gm0' \
-        'label gm0 --key k1 --shelf=images' 'adopt --shelf images gm0 a.img' 'configure --shelf images --prov'; do
+        'label gm0 --key k1 --shelf=images' 'adopt --shelf images gm0 a.img' 'configure --shelf images --prov' \
+        'replace --shelf images gm0' 'replace --shelf images gm0 c.img'; do
         expect_offered "zsh: the images behind $line" "$(in_zsh "gmbench $line ")" 'a.img b.img'
     done
     for quoted in 'other/two\ words' "'other/two words'" '"other/two words"'; do
@@ -195,7 +202,8 @@ else
         in_zsh 'gmbench dump b'
     )" b.img
     for line in "scrub $registered" "sync $registered" "do $registered k1 insert" "do $registered k1 lost" \
-        "do $registered k1 patch" "insert $registered" "lost --key k1 $registered"; do
+        "do $registered k1 patch" "insert $registered" "lost --key k1 $registered" "replace $registered" \
+        "write --first 2 $registered"; do
         expect_offered "zsh: the mirrors behind ${line%% *} ${line##* }" "$(in_zsh "gmbench $line ")" 'gm0 gm1'
     done
     expect_offered 'zsh: no mirror of a label' "$(in_zsh "gmbench do $registered k1 label ")" ''
@@ -237,6 +245,10 @@ if command -v fish >/dev/null; then
         expect_offered "fish: the options of $word" "$(in_fish "gmbench $word --")" "$(options_of "$word")"
     done
     expect_offered 'fish: the images of a folder' "$(in_fish 'gmbench dump --shelf images ')" 'a.img b.img'
+    expect_offered 'fish: the images after a mirror to be replaced in' "$(in_fish 'gmbench replace --shelf images gm0 ')" \
+        'a.img b.img'
+    expect_offered 'fish: an image in its place' "$(in_fish 'gmbench replace --shelf images gm0 a.img b')" b.img
+    expect_offered 'fish: the options of a check after --data' "$(in_fish 'gmbench check --data --j')" --json
     expect_offered 'fish: an image that is given up' "$(in_fish 'gmbench recover --shelf=images --without ')" 'a.img b.img'
     expect_offered 'fish: all images of an adopt' "$(in_fish 'gmbench do --shelf images k1 adopt gm0 a.img ')" 'a.img b.img'
     expect_offered 'fish: no second image of a remove' "$(in_fish 'gmbench do --shelf images k1 remove gm0 a.img ')" ''
@@ -249,7 +261,8 @@ if command -v fish >/dev/null; then
     expect_offered 'fish: no image of a forget by itself' "$(in_fish 'gmbench forget --shelf images gm0 ')" ''
     expect_offered 'fish: on and off, by itself' "$(in_fish 'gmbench insert --hardcode ')" 'off on'
     expect_offered 'fish: a folder whose name has a space' "$(in_fish 'gmbench dump --shelf other/two\ words ')" c.img
-    for line in "scrub $registered" "sync $registered" "do $registered k1 remove" "insert $registered"; do
+    for line in "scrub $registered" "sync $registered" "do $registered k1 remove" "insert $registered" \
+        "replace $registered" "write --first 2 $registered" "patch --data 00 $registered"; do
         expect_offered "fish: the mirrors behind ${line%% *} ${line##* }" "$(in_fish "gmbench $line ")" 'gm0 gm1'
     done
     expect_offered 'fish: no mirror of a label' "$(in_fish "gmbench do $registered k1 label ")" ''

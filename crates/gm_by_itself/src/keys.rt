@@ -11,7 +11,7 @@ use gm_bench::{Bench, BenchFault};
 use gm_commands::MAX_COMMANDS;
 use gm_shelf::Shelf;
 use sqlite::Alter;
-use std::alloc::Global;
+use std::alloc::{AllocError, Global};
 
 // The key of this number.
 fn key_of(alloc: Global, number: u64) -> Result<String, BenchFault> {
@@ -40,19 +40,46 @@ fn key_if_free<S: Alter, H: Shelf>(
 }
 
 /// A key under which no command was accepted: `g` and the number that the next command gets, in six
-/// digits or more, or a number after it. `None` if as many are taken as a registry has commands.
+/// digits or more, or a number after it. `Unreadable` if as many are taken as a registry may have
+/// commands, since then it isn't one that gmbench wrote.
 pub(crate) fn own_key<S: Alter, H: Shelf>(
     alloc: Global,
     bench: &mut Bench<S, H>,
-) -> Result<Option<String>, BenchFault>
+) -> Result<String, BenchFault>
     ensures { OnOk result (progress_of bench.new ≡ progress_of bench.old) }
 {
     let mut number = bench.accepted()?;
     for _ in 0..=MAX_COMMANDS {
         number = number.saturating_add(1);
         if let Some(key) = key_if_free(alloc, bench, number)? {
-            return Ok(Some(key));
+            return Ok(key);
         }
     }
-    Ok(None)
+    Err(BenchFault::Unreadable)
+}
+
+/// The key of the first of several commands: the one that was given, or one of gmbench's own.
+pub fn first_key<S: Alter, H: Shelf>(
+    alloc: Global,
+    given: Option<&str>,
+    bench: &mut Bench<S, H>,
+) -> Result<String, BenchFault>
+    ensures { OnOk result (progress_of bench.new ≡ progress_of bench.old) }
+{
+    let Some(key) = given else {
+        return own_key(alloc, bench);
+    };
+    match String::from_str(alloc, key) {
+        Ok(key) => Ok(key),
+        Err(_) => Err(BenchFault::Memory),
+    }
+}
+
+/// The key of a command of several that are handed in one after the other, by its number from 1
+/// on: the first key itself, and after that the first key, a dot and the number.
+pub fn following_key(alloc: Global, first: &str, number: usize) -> Result<String, AllocError> {
+    if number <= 1 {
+        return String::from_str(alloc, first);
+    }
+    format!(in alloc; "{first}.{number}")
 }

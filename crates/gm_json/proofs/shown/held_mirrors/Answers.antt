@@ -3,14 +3,14 @@ use Rattle.serde_json.specs.Data.{Data}
 use Rattle.serde_json.specs.View.{view}
 use Rattle.gm_state.specs.declared.records.Mirror.{Mirror}
 use Rattle.gm_state.specs.Records.{members}
-use Rattle.gm_json.specs.Mirrors.{mirror_data}
+use Rattle.gm_json.specs.Shown.{held_mirror}
 use Rattle.gm_json.proofs.Grown.{one_more}
-use Rattle.gm_json.proofs.mirrors.mirror_values.Goals as goal
+use Rattle.gm_json.proofs.shown.held_mirrors.Goals as goal
 
 pub loop-mirror-preserved : goal.loop-mirror-preserved
 loop-mirror-preserved c =
     let s = c.args.state.now in
-    let f : Mirror → Data = λ m. mirror_data m (members s.components m.name) in
+    let f : Mirror → Data = λ m. held_mirror m (members s.components m.name) in
     let x = c.mirror-item.result in
     let i = c.loop-mirror.mirror-index in
     let all = c.mirrors-mirror-items.ensures.value in
@@ -19,6 +19,6 @@ loop-mirror-preserved c =
     let is : x ≡ get_or s.mirrors i x =
     c.mirror-item.is ∙ ap (λ (l : List Mirror). get_or l i x) all in
     ap (map view) c.in_ok-push.ensures.items
-    ∙ one_more f view s.mirrors i x c.loop-mirror.values.items c.in_ok-mirror_value.field-0
-    low is c.loop-mirror.invariant (c.in_ok-mirror_value.ensures
-    ∙ ap (mirror_data x) (c.deref.ensures.value ∙ c.in_ok-members.ensures.value))
+    ∙ one_more f view s.mirrors i x c.loop-mirror.values.items c.in_ok-held_mirror.field-0
+    low is c.loop-mirror.invariant (c.in_ok-held_mirror.ensures
+    ∙ ap (held_mirror x) (c.deref.ensures.value ∙ c.in_ok-members.ensures.value))

@@ -1,7 +1,0 @@
-use Rattle.std.proofs.Common.{◌∙◌, ap}
-use Rattle.serde_json.specs.Written.{has_float}
-use Rattle.gm_json.proofs.NoFloats.{list_none}
-use Rattle.gm_json.proofs.mirrors.list_json.Goals as goal
-
-pub text_of-requires : goal.text_of-requires
-text_of-requires c = ap has_float c.in_ok-value.ensures ∙ list_none c.args.state.now

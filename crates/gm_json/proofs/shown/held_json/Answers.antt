@@ -1,0 +1,7 @@
+use Rattle.std.proofs.Common.{◌∙◌, ap}
+use Rattle.serde_json.specs.Written.{has_float}
+use Rattle.gm_json.proofs.NoFloats.{held_none}
+use Rattle.gm_json.proofs.shown.held_json.Goals as goal
+
+pub text_of-requires : goal.text_of-requires
+text_of-requires c = ap has_float c.in_ok-value.ensures ∙ held_none c.args.state.now

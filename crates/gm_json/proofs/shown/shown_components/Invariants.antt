@@ -1,0 +1,8 @@
+use Rattle.std.proofs.Common.{◌≡◌, map, take}
+use Rattle.serde_json.specs.View.{view}
+use Rattle.gm_json.specs.Shown.{shown_component}
+use Rattle.gm_json.proofs.shown.shown_components.Given as goal
+
+abbrev pub invariant-loop-component : goal.invariant-loop-component
+invariant-loop-component l =
+    map view l.values.items ≡ map (shown_component l.fn.m) (take l.component-index l.fn.members)

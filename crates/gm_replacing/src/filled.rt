@@ -1,0 +1,61 @@
+//! Fills the new image of a replacement.
+
+ghost use Rattle.std.specs.Prelude.{◌≡◌, OnOk};
+ghost use Rattle.gm_bench.specs.Benches.{progress_of};
+ghost use Rattle.gm_bench.specs.Phases.{TakesCommands};
+
+use crate::stopped::Stopped;
+use gm_bench::{Bench, BenchFault};
+use gm_command_line::{Filling, Form, Replacing, Scope};
+use gm_filling::fill_components;
+use gm_metadata::Label;
+use gm_process::{Status, Streams};
+use gm_shelf::Shelf;
+use gm_state::{ComponentState, component_state};
+use sqlite::Alter;
+use std::alloc::Global;
+use std::io::Write;
+
+// Whether an image is an ACTIVE component, by the records of the registry.
+fn is_active<S: Alter, H: Shelf>(
+    alloc: Global,
+    bench: &mut Bench<S, H>,
+    image: Label,
+) -> Result<bool, BenchFault>
+    ensures { OnOk result (progress_of bench.new ≡ progress_of bench.old) }
+{
+    let state = bench.view(alloc)?;
+    Ok(matches!(component_state(&state, image), Some(ComponentState::Active)))
+}
+
+/// Fills the new image, and prints its state. It goes on only if that is ACTIVE then.
+pub(crate) fn fill_new<S: Alter, H: Shelf, I, O: Write, E: Write>(
+    rt: &HostRuntime,
+    replacing: &Replacing<'_>,
+    bench: &mut Bench<S, H>,
+    streams: &mut Streams<'_, I, O, E>,
+) -> Result<(), Stopped>
+    requires { TakesCommands (progress_of bench.old) }
+    ensures { OnOk result (TakesCommands (progress_of bench.new)) }
+{
+    let filling = Filling {
+        scope: Scope::Component {
+            mirror: replacing.mirror,
+            provider: replacing.new,
+        },
+        audits: replacing.checks.images,
+        is_quiet: replacing.is_quiet,
+        form: Form::Text,
+    };
+    let report = fill_components(rt, filling, bench, streams)?;
+    streams.output.write_all(report.text.as_bytes())?;
+    streams.output.flush()?;
+    if report.status != Status::Done {
+        return Err(Stopped::Refused);
+    }
+    if is_active(rt.alloc(), bench, replacing.new)? {
+        Ok(())
+    } else {
+        Err(Stopped::Refused)
+    }
+}
