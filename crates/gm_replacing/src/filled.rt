@@ -1,8 +1,14 @@
 //! Fills the new image of a replacement.
 
-ghost use Rattle.std.specs.Prelude.{◌≡◌, OnOk};
-ghost use Rattle.gm_bench.specs.Benches.{progress_of};
+ghost use Rattle.std.specs.Prelude.{◌≡◌, IfOk, OnOk};
+ghost use Rattle.gm_state.specs.Records.{Records};
+ghost use Rattle.gm_state.specs.Rows.{Tables};
+ghost use Rattle.gm_state.specs.States.{component_state};
+ghost use Rattle.gm_rows.specs.ReadableTables.{AreRecordsOf};
+ghost use Rattle.gm_registry.specs.Registry.{DiskKept, HasTables};
+ghost use Rattle.gm_bench.specs.Benches.{progress_of, registry_of};
 ghost use Rattle.gm_bench.specs.Phases.{TakesCommands};
+ghost use Rattle.gm_replacing.specs.Filled.{is_active};
 
 use crate::stopped::Stopped;
 use gm_bench::{Bench, BenchFault};
@@ -16,16 +22,26 @@ use sqlite::Alter;
 use std::alloc::Global;
 use std::io::Write;
 
+// Whether that is the state of a component that is there and ACTIVE.
+fn is_active_state(state: Option<ComponentState>) -> bool
+    ensures { result ≡ is_active state }
+{
+    matches!(state, Some(ComponentState::Active))
+}
+
 // Whether an image is an ACTIVE component, by the records of the registry.
 fn is_active<S: Alter, H: Shelf>(
     alloc: Global,
     bench: &mut Bench<S, H>,
     image: Label,
 ) -> Result<bool, BenchFault>
-    ensures { OnOk result (progress_of bench.new ≡ progress_of bench.old) }
+    ensures active { DiskKept S.Store (registry_of bench.new) → IfOk result (λ active. (t : Tables)
+        (s : Records) → HasTables S.Store (registry_of bench.old) t → AreRecordsOf t s
+        → active ≡ is_active (component_state s image)) }
+    ensures progress { OnOk result (progress_of bench.new ≡ progress_of bench.old) }
 {
     let state = bench.view(alloc)?;
-    Ok(matches!(component_state(&state, image), Some(ComponentState::Active)))
+    Ok(is_active_state(component_state(&state, image)))
 }
 
 /// Fills the new image, and prints its state. It goes on only if that is ACTIVE then.

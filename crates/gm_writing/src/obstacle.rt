@@ -70,6 +70,14 @@ impl Obstacle {
     }
 }
 
+/// Says what data take: so many commands, and so many bytes of the registry, which keeps them.
+pub(crate) fn say_kept<E: Write>(complaints: &mut E, commands: usize, kept: u64) -> io::Result<()> {
+    writeln!(
+        complaints,
+        "this takes {commands} commands, and {kept} bytes of the registry for ever"
+    )
+}
+
 // What large data take, how they are changed without the registry, and how with it all the same.
 fn say_large<E: Write>(
     complaints: &mut E,
@@ -77,10 +85,7 @@ fn say_large<E: Write>(
     commands: usize,
     kept: u64,
 ) -> io::Result<()> {
-    writeln!(
-        complaints,
-        "this takes {commands} commands, and {kept} bytes of the registry for ever"
-    )?;
+    say_kept(complaints, commands, kept)?;
     writeln!(
         complaints,
         "{key}: to do without: deactivate all images but one, edit that, activate the others, sync"

@@ -86,6 +86,11 @@ impl Patches<'_> {
         self.bytes.len() as u64
     }
 
+    /// How many bytes the registry keeps of them: two digits for each byte.
+    pub(crate) fn kept(&self) -> u64 {
+        self.length().saturating_mul(2)
+    }
+
     /// How many sectors are written.
     pub(crate) fn sectors(&self) -> u64 {
         self.length() / 512

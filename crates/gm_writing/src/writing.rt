@@ -3,7 +3,7 @@
 ghost use Rattle.std.specs.Prelude.{◌≡◌, IfOk};
 ghost use Rattle.gm_process.specs.Statuses.{MayRefuse};
 
-use crate::obstacle::Obstacle;
+use crate::obstacle::{Obstacle, say_kept};
 use crate::patches::Patches;
 use crate::source::{named, read_source};
 use crate::standing::standing_of;
@@ -73,7 +73,7 @@ fn obstacle_in_registry(
     if checks.losses && patches.length() > MOST_UNFORCED {
         return Some(Obstacle::Large {
             commands: patches.count(),
-            kept: patches.length().saturating_mul(2),
+            kept: patches.kept(),
         });
     }
     None
@@ -234,6 +234,16 @@ fn say_key<I, O, E: Write>(key: &str, streams: &mut Streams<'_, I, O, E>) {
     }
 }
 
+// Says what the data take, if that is more than one command.
+fn say_needed<I, O, E: Write>(patches: &Patches<'_>, streams: &mut Streams<'_, I, O, E>) {
+    let commands = patches.count();
+    if commands > 1 {
+        let key = patches.first_key;
+        let _ = write!(streams.complaints, "{key}: ");
+        let _ = say_kept(streams.complaints, commands, patches.kept());
+    }
+}
+
 // Writes the data, if nothing is in the way of them.
 fn write_patches<S: Alter, H: Shelf, I: BufRead, O: Write, E: Write>(
     rt: &HostRuntime,
@@ -262,6 +272,9 @@ fn write_patches<S: Alter, H: Shelf, I: BufRead, O: Write, E: Write>(
         return Ok(not_done(key, obstacle, source, streams)?);
     }
     say_key(key, streams);
+    if standing.first_new == 0 && !writing.is_quiet {
+        say_needed(patches, streams);
+    }
     hand_in_all(rt, patches, standing.first_new, writing, bench, streams)
 }
 

@@ -1,9 +1,10 @@
-"""Each call on a file of `sync`, `scrub`, `check`, `pending` and looks with --read-only, which fails once.
+"""Each call on a file of `sync`, `replace`, `write`, `scrub`, `check`, `pending` and looks with --read-only, which fails once.
 
     each_call.py PROGRAM PRELOADED FOLDER
 
 A run whose call fails ends with a fault, or does all of its work. What only looks changes nothing, or, if it recovers
-first, no more than that does. After a `sync` that failed another one makes of the images what one makes that doesn't fail.
+first, no more than that does. After a `sync`, a `replace` or a `write` that failed the same words make of the images what they
+make if nothing fails.
 """
 
 import sys
@@ -54,8 +55,8 @@ def try_each(name, words, begins_with, behind):
         status, told, complaint = run(words, WITHIN=place.folder + "/", FAIL=str(call))
         if status == 3:
             faults += 1
-            last = complaint.splitlines(keepends=True)[-1:]
-            if last not in [[fault] for fault in FAULTS]:
+            # Commands that explain themselves say more after it.
+            if not any(line in FAULTS for line in complaint.splitlines(keepends=True)):
                 wrong.append(f"{title}: it complains {complaint!r}")
         elif (status, told) != well[:2]:
             wrong.append(f"{title}: status {status}, {told!r}, and not {well!r}")
@@ -97,6 +98,19 @@ def is_filled_again(title, whole):
         wrong.append(f"{title}: an audit says {audited!r}")
 
 
+def is_done_again(words):
+    """The same words do the rest."""
+
+    def behind(title, whole):
+        status, _, complaint = run(words)
+        if status != 0:
+            wrong.append(f"{title}: again it ends with {status}, {complaint!r}")
+        if images_of(place.contents()) != images_of(whole):
+            wrong.append(f"{title}: an image is another")
+
+    return behind
+
+
 make_bench()
 place.keep("made")
 run(["batch"], b"k6 advance gm0 c.img\n", WITHIN=place.images + "/", FAIL="9")
@@ -109,3 +123,16 @@ try_each("scrub", ["scrub", "--quiet"], "made", images_stay)
 try_each("scrub behind a stop", ["scrub", "--quiet"], "stopped", images_stay)
 try_each("sync", ["sync", "--quiet"], "made", is_filled_again)
 try_each("sync behind a stop", ["sync", "--quiet"], "stopped", is_filled_again)
+place.put_back("made")
+with open(place.images + "/d.img", "wb") as file:
+    file.write(bytes(SECTORS * 512))
+with open(place.folder + "/loader.bin", "wb") as file:
+    file.write(bytes(range(256)) * 2 * 130)
+place.keep("with a spare")
+REPLACE = ["replace", "--quiet", "--key", "r", "gm0", "b.img", "d.img"]
+try_each("replace", REPLACE, "with a spare", is_done_again(REPLACE))
+place.put_back("with a spare")
+run(["sync", "--quiet"])
+place.keep("filled")
+WRITE = ["write", "--quiet", "--key", "w", "--first", "3", "--file", place.folder + "/loader.bin", "gm0"]
+try_each("write", WRITE, "filled", is_done_again(WRITE))

@@ -47,7 +47,9 @@ put_data 10 few
 
 put_mirror several 300
 at_bench write gm0 --first 30 --file "$work/data" --key w
-expect 'data of four commands' 0 "$(lines 'w ok 5\nw.2 ok 6\nw.3 ok 7\nw.4 ok 8')" 'gm0 100%: 100 of 100 KiB'
+takes='w: this takes 4 commands, and 204800 bytes of the registry for ever'
+expect 'data of four commands' 0 "$(lines 'w ok 5\nw.2 ok 6\nw.3 ok 7\nw.4 ok 8')" \
+    "$(lines "$takes\ngm0 100%%: 100 of 100 KiB")"
 lay_over data 30
 expect_data 'they are on both images' 300
 at_bench audit
@@ -109,7 +111,8 @@ damage "$bench/images/b.img" $((300 * 512 + 64)) x
 keep_bench
 at_bench write gm0 --first 0 --file "$work/data" --key v
 expect 'an image that is not as it is registered' 1 "$(lines 'v not done\nb.img damaged')" \
-    'v: b.img is another file or was overwritten: bring the right one back, or give it up by lost
+    'v: this takes 4 commands, and 204800 bytes of the registry for ever
+v: b.img is another file or was overwritten: bring the right one back, or give it up by lost
 v: --unchecked carries it out all the same'
 expect_kept 'nothing is written beside it'
 at_bench write gm0 --first 0 --file "$work/few" --key v --unchecked
