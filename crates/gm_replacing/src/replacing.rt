@@ -14,6 +14,7 @@ use gm_by_itself::{first_key, following_key};
 use gm_command_line::Replacing;
 use gm_commands::is_key;
 use gm_faults::Fault;
+use gm_lines::shown;
 use gm_process::{Status, Streams};
 use gm_reports::{no_component, no_mirror, refused};
 use gm_shelf::Shelf;
@@ -130,17 +131,31 @@ fn is_too_long(alloc: Global, first: &str) -> Result<bool, AllocError> {
     Ok(is_key(first) && !is_key(last.as_str()))
 }
 
-// Says that nothing is done because of a key that is too long.
-fn say_too_long<I, O: Write, E: Write>(
+// Why nothing is done, whatever the mirror has.
+fn obstacle(
+    alloc: Global,
+    replacing: &Replacing<'_>,
     first: &str,
+) -> Result<Option<&'static str>, AllocError> {
+    if replacing.old == replacing.new {
+        return Ok(Some("OLD and NEW are the same image"));
+    }
+    if is_too_long(alloc, first)? {
+        return Ok(Some("a key has 32 characters at most, and this one gets .2 and .3 after it"));
+    }
+    Ok(None)
+}
+
+// Says that nothing is done, and why.
+fn say_not_done<I, O: Write, E: Write>(
+    first: &str,
+    why: &str,
     streams: &mut Streams<'_, I, O, E>,
 ) -> io::Result<()> {
-    writeln!(streams.output, "{first} not done")?;
+    let key = shown(first);
+    writeln!(streams.output, "{key} not done")?;
     streams.output.flush()?;
-    let _ = writeln!(
-        streams.complaints,
-        "{first}: a key has 32 characters at most, and this one gets .2 and .3 after it"
-    );
+    let _ = writeln!(streams.complaints, "{key}: {why}");
     Ok(())
 }
 
@@ -155,8 +170,8 @@ fn replace_under<S: Alter, H: Shelf, I: BufRead, O: Write, E: Write>(
     requires { TakesCommands (progress_of bench.old) }
 {
     let alloc = rt.alloc();
-    if is_too_long(alloc, first)? {
-        say_too_long(first, streams)?;
+    if let Some(why) = obstacle(alloc, replacing, first)? {
+        say_not_done(first, why, streams)?;
         return Err(Stopped::Refused);
     }
     let way = way_of(alloc, replacing, first, bench, streams)?;

@@ -26,8 +26,12 @@ fn read_file(rt: &HostRuntime, file: &str, limit: u64) -> io::Result<Vec<u8>> {
     read_up_to(rt.alloc(), File::open(rt, file)?, limit)
 }
 
-// Why a file can't be read, with PATH in the place of its own.
-fn sentence(error: &io::Error) -> &'static str {
+// Why a source can't be read, with PATH in the place of its name. If the input is closed, another
+// file has its number, so that an error says nothing of it.
+fn sentence(file: &str, error: &io::Error) -> &'static str {
+    if file == INPUT {
+        return "PATH can't be read";
+    }
     match error.kind() {
         ErrorKind::NotFound => "there is no file PATH",
         ErrorKind::IsADirectory => "PATH is a folder",
@@ -52,7 +56,7 @@ pub(crate) fn read_source<I: BufRead, O, E>(
         Ok(bytes) => Ok(bytes),
         Err(error) => {
             let path = String::from_str(rt.alloc(), named(file))?;
-            streams.explaining.trouble = Some(Trouble::new(sentence(&error), path));
+            streams.explaining.trouble = Some(Trouble::new(sentence(file, &error), path));
             Err(Fault::from(error))
         }
     }

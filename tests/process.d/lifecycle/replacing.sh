@@ -95,6 +95,8 @@ at_bench replace gm0 b.img x.img
 expect_refused 'a new image that is not there' 'g000004 refused 8' "x.img isn't on the shelf"
 at_bench replace --key "$(printf '%031d' 0)" gm0 b.img c.img
 expect_refused 'a key from which none follows' "$(printf '%031d' 0) not done" 'this one gets .2 and .3 after it'
+at_bench replace gm0 b.img b.img
+expect_refused 'an image by itself' 'g000004 not done' 'OLD and NEW are the same image'
 at_bench replace gm0 b.img
 expect_words 'no new image'
 at_bench replace gm0 b.img 'c/img'

@@ -101,6 +101,8 @@ at_bench write gm1 --first 0 --file "$work/data"
 expect 'a mirror that is not there' 1 'refused 5' 'refused 5: no mirror is named gm1'
 at_bench write gm0 --first 0 --file "$work/nowhere" --explain
 expect 'a file that is not there' 3 '' "$(lines "$broken\ninput or output: there is no file $work/nowhere")"
+at_bench write gm0 --first 0 --file - <&-
+expect 'an input that is closed' 3 '' "$(lines "$broken\ninput or output: the input can't be read")"
 at_bench write gm0 --first 0 --file "$bench/images" --explain
 expect 'a folder' 3 '' "$(lines "$broken\ninput or output: $bench/images is a folder")"
 expect_kept 'nothing is written by any'
