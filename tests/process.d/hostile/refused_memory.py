@@ -92,6 +92,27 @@ def redo():
     calls.try_each("a recovery of two writes", put_back, run, judge, lambda ended: ended == (0, "recovered 2\n", ""))
 
 
+def several(name, words):
+    """A command that hands in several: it ends well or with the fault, and the same words lead to the same images."""
+
+    def run(**more):
+        return calls.run(words, **more)
+
+    put_back()
+    run()
+    wanted = bench.contents_of_images()
+
+    def judge(ended):
+        if ended[0] != 0 and (ended[0] != 3 or MEMORY not in ended[2].splitlines(keepends=True)):
+            return shown(ended)
+        again = run()
+        if again[0] != 0:
+            return f"the same words again: {shown(again)}"
+        return None if bench.contents_of_images() == wanted else "the same words again leave other images"
+
+    calls.try_each(name, put_back, run, judge, lambda ended: ended[0] == 0)
+
+
 def batch():
     """A batch: each line is answered as ever, or with the fault that ends it; and again after that."""
 
@@ -183,6 +204,14 @@ serve()
 put_back()
 calls.run(["batch"], LINES)
 bench.keep("kept")
+with open(os.path.join(bench.images, "c.img"), "wb") as file:
+    file.write(bytes(2048))
+bench.keep("kept")
+several("a replacement", ["replace", "--quiet", "--key", "r", "gm0", "b.img", "c.img"])
+with open(os.path.join(bench.work, "loader.bin"), "wb") as file:
+    file.write(bytes(range(256)) * 6)
+LOADER = os.path.join(bench.work, "loader.bin")
+several("a write", ["write", "--quiet", "--key", "w", "--first", "0", "--file", LOADER, "gm0"])
 for command in ["status", "list", "audit"]:
     look(command, [command])
 look("taste", ["taste"], registry=False)

@@ -7,7 +7,7 @@
 # Into the program a library is preloaded that refuses the Nth call of malloc, calloc or realloc. N goes over all the calls
 # of a run, or if there are too many over as many as fit, which are chosen by a fixed seed; the counts are printed. Tried
 # are a batch of eight lines (a label, an insert, an advance, refused and repeated lines), a request that is served, a
-# recovery of two writes, and each look, those that only read among them. Each run tells what it tells with ample memory, or
+# recovery of two writes, a replacement, a write, and each look, those that only read among them. Each run tells what it tells with ample memory, or
 # F1; the next opening ends well, and the same lines are answered right after it. No look changes an image, and `pending` and
 # what is `--read-only` change no file.
 case ${HOSTILE:-some} in

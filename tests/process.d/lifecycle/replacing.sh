@@ -67,6 +67,14 @@ at_bench replace --quiet --key r1 gm0 b.img c.img
 expect 'with the key it goes on' 0 "$(lines 'r1 repeated 4\nr1.2 ok 5\nr1.3 ok 6\ngm0 c.img ACTIVE')" \
     'r1: done before, as number 4; nothing is done now'
 
+# ---- an answer that is lost
+
+filled_bench full-output
+timeout 20 "$gmbench" replace --quiet --registry "$registry" --shelf "$bench/images" gm0 b.img c.img >/dev/full \
+    2>"$work/complaints"
+at_bench replace --quiet gm0 b.img c.img
+expect 'after a lost answer the same words go on' 0 "$(lines 'gm0 c.img ACTIVE\ng000005.2 ok 6')" ''
+
 # ---- a mirror without room
 
 fresh_bench full
@@ -86,17 +94,23 @@ expect_refused 'but not so that one copy is left' 'g000020 not done' \
 # ---- what isn't done
 
 filled_bench refused
+add_image d.img
+batch 'k4 label --mid 8 --did 1 gm1 d.img\n'
 keep_bench
-at_bench replace gm1 b.img c.img
-expect_refused 'a mirror that is not there' 'refused 5' 'gm1'
+at_bench replace gm9 b.img c.img
+expect_refused 'a mirror that is not there' 'refused 5' 'gm9'
 at_bench replace gm0 x.img c.img
 expect_refused 'an image that is not in it' 'refused 12' 'x.img'
+at_bench replace gm0 d.img c.img
+expect_refused 'an image of another mirror' 'refused 12' 'd.img'
+at_bench replace gm0 b.img d.img
+expect_refused 'a new image of another mirror' 'g000005 refused 9' 'd.img is a component of a mirror already'
 at_bench replace gm0 b.img x.img
-expect_refused 'a new image that is not there' 'g000004 refused 8' "x.img isn't on the shelf"
+expect_refused 'a new image that is not there' 'g000005 refused 8' "x.img isn't on the shelf"
 at_bench replace --key "$(printf '%031d' 0)" gm0 b.img c.img
 expect_refused 'a key from which none follows' "$(printf '%031d' 0) not done" 'this one gets .2 and .3 after it'
 at_bench replace gm0 b.img b.img
-expect_refused 'an image by itself' 'g000004 not done' 'OLD and NEW are the same image'
+expect_refused 'an image by itself' 'g000005 not done' 'OLD and NEW are the same image'
 at_bench replace gm0 b.img
 expect_words 'no new image'
 at_bench replace gm0 b.img 'c/img'
