@@ -6,6 +6,7 @@ ghost use Rattle.gm_state.specs.Rows.{Tables};
 ghost use Rattle.gm_registry.specs.Registry.{DiskKept, HasTables};
 ghost use Rattle.gm_registry.specs.Replies.{IsFree};
 ghost use Rattle.gm_bench.specs.Benches.{progress_of, registry_of};
+ghost use Rattle.gm_by_itself.specs.Keys.{following, numbered};
 
 use gm_bench::{Bench, BenchFault};
 use gm_commands::MAX_COMMANDS;
@@ -64,7 +65,9 @@ pub fn first_key<S: Alter, H: Shelf>(
     given: Option<&str>,
     bench: &mut Bench<S, H>,
 ) -> Result<String, BenchFault>
-    ensures { OnOk result (progress_of bench.new ≡ progress_of bench.old) }
+    ensures given { IfSome given.entry
+        (λ key. IfOk result (λ first. string_bytes first ≡ key.now)) }
+    ensures progress { OnOk result (progress_of bench.new ≡ progress_of bench.old) }
 {
     let Some(key) = given else {
         return own_key(alloc, bench);
@@ -75,11 +78,23 @@ pub fn first_key<S: Alter, H: Shelf>(
     }
 }
 
+// The first key, a dot and a number.
+fn numbered(alloc: Global, first: &str, number: usize) -> Result<String, AllocError>
+    ensures { IfOk result (λ key. string_bytes key ≡ numbered first.now number) }
+{
+    let mut key = String::new(alloc);
+    write!(key, "{first}.{number}")?;
+    Ok(key)
+}
+
 /// The key of a command of several that are handed in one after the other, by its number from 1
 /// on: the first key itself, and after that the first key, a dot and the number.
-pub fn following_key(alloc: Global, first: &str, number: usize) -> Result<String, AllocError> {
-    if number <= 1 {
-        return String::from_str(alloc, first);
+#[tactic(auto, unfolding(crate::specs::Keys::following))]
+pub fn following_key(alloc: Global, first: &str, number: usize) -> Result<String, AllocError>
+    ensures { IfOk result (λ key. string_bytes key ≡ following first.now number) }
+{
+    match number {
+        1 => String::from_str(alloc, first),
+        number => numbered(alloc, first, number),
     }
-    format!(in alloc; "{first}.{number}")
 }

@@ -59,7 +59,7 @@ impl Obstacle {
             ),
             Obstacle::NoKey => writeln!(
                 complaints,
-                "with .2, .3 and so on after it, a key is 1 to 32 of A-Z, a-z, 0-9, '.', '_' and '-'"
+                "a key, also with .2 and so on, is 1 to 32 of A-Z, a-z, 0-9, '.', '_' and '-'"
             ),
             Obstacle::NoRoom { needed, room } => writeln!(
                 complaints,

@@ -28,7 +28,6 @@ SCRIPT = [
 ]
 LINES = "".join(f"p{number} {command}\n" for number, command in enumerate(SCRIPT)).encode()
 wrong = []
-stops = 0
 
 
 def check(title, found, wanted):
@@ -68,26 +67,19 @@ def check_claims(title, lists):
 
 
 def stop_each(within, kept, lists, ends):
-    """Stops the batch before each write and sync of files whose path begins so."""
-    global stops
-    place.put_back("before")
-    run(LINES, STOPPED=within, COUNT=place.count_file)
-    total = place.count()
-    for call in range(1, total + 1):
-        for kill in ({}, {"KILL": "yes"}):
-            stops += 1
-            title = f"stopped at call {call} of {total} of {kept}{', killed' if kill else ''}"
-            place.put_back("before")
-            run(LINES, STOPPED=within, STOP=str(call), **kill)
-            check_claims(title, lists)
-            check(f"{title}: the next opening", run(words=["recover"])[0], 0)
-            check_claims(f"{title}, recovered", lists)
-            count = len(records().commands) - len(BEFORE)
-            check(f"{title}: {count} commands were done", images() == ends[count], True)
-            status, told, complaint = run(LINES)
-            check(f"{title}: again", (status, len(told.splitlines()), complaint), (0, len(SCRIPT), ""))
-            check(f"{title}: it comes to the end", images() == ends[-1], True)
-    return total
+    """Stops the batch before each write and sync of files whose path begins so: how many stops that are."""
+    stops = 0
+    for title in place.stops(lambda **how: run(LINES, **how), within, kept):
+        stops += 1
+        check_claims(title, lists)
+        check(f"{title}: the next opening", run(words=["recover"])[0], 0)
+        check_claims(f"{title}, recovered", lists)
+        count = len(records().commands) - len(BEFORE)
+        check(f"{title}: {count} commands were done", images() == ends[count], True)
+        status, told, complaint = run(LINES)
+        check(f"{title}: again", (status, len(told.splitlines()), complaint), (0, len(SCRIPT), ""))
+        check(f"{title}: it comes to the end", images() == ends[-1], True)
+    return stops
 
 
 place.make(NAMES, SECTORS)
@@ -102,6 +94,6 @@ for number, command in enumerate(SCRIPT):
     ends.append(images())
 for name, image in ends[-1].items():
     check(f"the data of {name}", image[:DATA] == (patched if name == "b.img" else lists[-1]), True)
-calls = [stop_each(place.images + "/", "the images", lists, ends), stop_each(place.folder + "/", "all files", lists, ends)]
-name = f"patches that are stopped at each of {calls[0]} calls of the images, and {calls[1]} of all files ({stops} stops)"
+stops = [stop_each(place.images + "/", "the images", lists, ends), stop_each(place.folder + "/", "all files", lists, ends)]
+name = f"patches that are stopped {stops[0]} times at calls of the images, and {stops[1]} times at calls of all files"
 print(f"failed {name}: {len(wrong)} times, the first: {wrong[0]}" if wrong else f"ok {name}", flush=True)

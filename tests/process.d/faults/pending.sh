@@ -166,14 +166,5 @@ fi
 
 # ---- each of the fourteen commands, killed before each of its writes
 
-if has_python 'what is pending behind each command'; then
-    if ! python3 -c 'import sqlite3' 2>/dev/null; then
-        skip 'what is pending behind each command' 'there is no SQLite for python3 here'
-    elif command -v cc >/dev/null && cc -O1 -fPIC -shared -o "$work/stopped_calls.so" "$tests/faults/stopped_calls.c" \
-        2>"$work/complaints"; then
-        run_script faults/pending.py "$gmbench" "$work/stopped_calls.so" "$work"
-    else
-        skip 'what is pending behind each command' 'there is no C compiler here'
-    fi
-fi
+run_stopped_calls 'what is pending behind each command' faults/pending.py
 finish

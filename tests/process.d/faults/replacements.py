@@ -23,7 +23,6 @@ BEFORE = [
 ]
 WORDS = ["replace", "--key", "r", "--force", "--quiet", "gm0", "b.img", "c.img"]
 wrong = []
-stops = 0
 
 
 def check(title, found, wanted):
@@ -58,24 +57,17 @@ def check_kept(title, data, was_there):
 
 
 def stop_each(within, kept, data, ended, was_there):
-    """Stops a replacement before each write and sync of files whose path begins so."""
-    global stops
-    place.put_back("before")
-    run(WORDS, STOPPED=within, COUNT=place.count_file)
-    total = place.count()
-    for call in range(1, total + 1):
-        for kill in ({}, {"KILL": "yes"}):
-            stops += 1
-            title = f"stopped at call {call} of {total} of {kept}{', killed' if kill else ''}"
-            place.put_back("before")
-            run(WORDS, STOPPED=within, STOP=str(call), **kill)
-            check(f"{title}: the next opening", run(["recover"])[0], 0)
-            found = check_kept(title, data, was_there)
-            check(f"{title}: the other mirror", found["d.img"] == ended["d.img"], True)
-            status, told, _ = run(WORDS)
-            check(f"{title}: again", (status, len(told.splitlines())), (0, 3 if was_there else 4))
-            check(f"{title}: it comes to the end", images() == ended, True)
-    return total
+    """Stops a replacement before each write and sync of files whose path begins so: how many stops that are."""
+    stops = 0
+    for title in place.stops(lambda **how: run(WORDS, **how), within, kept):
+        stops += 1
+        check(f"{title}: the next opening", run(["recover"])[0], 0)
+        found = check_kept(title, data, was_there)
+        check(f"{title}: the other mirror", found["d.img"] == ended["d.img"], True)
+        status, told, _ = run(WORDS)
+        check(f"{title}: again", (status, len(told.splitlines())), (0, 3 if was_there else 4))
+        check(f"{title}: it comes to the end", images() == ended, True)
+    return stops
 
 
 def replace(what, was_there):
@@ -100,9 +92,9 @@ def replace(what, was_there):
     ]
 
 
-calls = replace("an image that is there", True) + replace("an image that is gone", False)
+there, gone = replace("an image that is there", True), replace("an image that is gone", False)
 name = (
-    f"replacements that are stopped at each of {calls[0]} and {calls[2]} calls of the images, and of {calls[1]} and "
-    f"{calls[3]} of all files ({stops} stops)"
+    f"replacements that are stopped {there[0] + gone[0]} times at calls of the images, and {there[1] + gone[1]} times at "
+    "calls of all files"
 )
 print(f"failed {name}: {len(wrong)} times, the first: {wrong[0]}" if wrong else f"ok {name}", flush=True)

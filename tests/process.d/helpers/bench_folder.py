@@ -30,6 +30,18 @@ class Bench:
         with open(self.count_file, encoding="ascii") as file:
             return int(file.read())
 
+    def stops(self, run, within, kept):
+        """Stops a run before each write and sync of files whose path begins so, by a fault and by a kill, from the bench
+        that was kept: tells after each how it was stopped."""
+        self.put_back("before")
+        run(STOPPED=within, COUNT=self.count_file)
+        total = self.count()
+        for call in range(1, total + 1):
+            for kill in ({}, {"KILL": "yes"}):
+                self.put_back("before")
+                run(STOPPED=within, STOP=str(call), **kill)
+                yield f"stopped at call {call} of {total} of {kept}{', killed' if kill else ''}"
+
     def begin(self, images):
         """A bench without a registry, with these images: their bytes by their names."""
         shutil.rmtree(self.folder, ignore_errors=True)

@@ -92,7 +92,7 @@ at_bench write gm0 --first 4294967295 --file - --key v <"$work/few"
 expect 'data that begin after it' 1 'v not done' \
     "v: the input is longer than the 0 bytes left of gm0's 300 sectors"
 long=a2345678901234567890123456789_1
-rule="with .2, .3 and so on after it, a key is 1 to 32 of A-Z, a-z, 0-9, '.', '_' and '-'"
+rule="a key, also with .2 and so on, is 1 to 32 of A-Z, a-z, 0-9, '.', '_' and '-'"
 at_bench write gm0 --first 0 --file "$work/data" --key $long
 expect 'a key that is too long with what follows it' 1 "$long not done" "$long: $rule"
 at_bench write gm0 --first 0 --file "$work/few" --key a/b
