@@ -1,5 +1,5 @@
 -- How many first sectors of two providers are equal.
-use Rattle.std.specs.Prelude.{◌≡◌, ◌≢◌, ◌<◌, ◌≤◌, ◌+◌, ◌⊎◌, ℕ, min, nat_le, unwrap_or}
+use Rattle.std.specs.Prelude.{◌≡◌, ◌≢◌, ◌<◌, ◌≤◌, ◌+◌, ℕ, min, nat_le, unwrap_or}
 use Rattle.gm_metadata.specs.declared.label.Label.{Label}
 use Rattle.gm_metadata.specs.Images.{Image, Sizes, agree}
 
@@ -14,10 +14,6 @@ reach_of size p q limit = min limit (min (count_of size p) (count_of size q))
 -- within the reach so many first sectors of two providers are equal, and no more
 abbrev pub CountsEqual : Image → Label → Label → ℕ → ℕ → Type 0
 CountsEqual x p q reach n = (k : ℕ) → k ≤ reach → nat_le k n ≡ agree x p q k
-
--- one of two providers ends before this place
-abbrev pub EndsBefore : Sizes → Label → Label → ℕ → Type 0
-EndsBefore size p q place = (count_of size p < place) ⊎ (count_of size q < place)
 
 -- of a run of so many sectors the first n are equal, and the next one differs if the run has it
 pub record IsEqualPart (x : Image) (p q : Label) (first sectors n : ℕ) : Type 0 where

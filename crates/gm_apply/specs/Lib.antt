@@ -1,4 +1,5 @@
 pub mod Continues
 pub mod DifferingData
 pub mod EqualData
+pub mod Failing
 pub mod Redo

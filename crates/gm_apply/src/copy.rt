@@ -1,11 +1,12 @@
 //! Copies sectors of one provider to another, by runs.
 
-ghost use Rattle.std.specs.Prelude.{◌≡◌, ◌≤◌, ◌<◌, ◌+◌, ◌^◌, ◌⊎◌, ℕ, Some, None, length, OnOk, IsErrOf, IsSomeAnd};
+ghost use Rattle.std.specs.Prelude.{◌≡◌, ◌≤◌, ◌<◌, ◌+◌, ◌^◌, length, OnOk};
 ghost use Rattle.gm_metadata.specs.Images.{Same};
 ghost use Rattle.gm_shelf.specs.Disk.{IsRun, put_run, IsRunWrite};
 ghost use Rattle.gm_shelf.specs.Keeping.{Keeps};
 ghost use Rattle.gm_state.specs.declared.intents.Intent.TheVariants.{Copy};
 ghost use Rattle.gm_state.specs.Intents.{copies};
+ghost use Rattle.gm_apply.specs.Failing.{IsAbsent, EndsBefore, OneOf, FailsAs};
 ghost use Rattle.gm_apply.specs.Redo.{PlacesAreNew, Moments, KeepsOthers, with_places, IsUnderWay};
 
 use gm_metadata::{Label, same};
@@ -26,12 +27,8 @@ pub(crate) fn write_stretch<H: Shelf>(
     ensures law { H.honest shelf.old →
         IsRunWrite target first sectors.now (H.view shelf.old) (H.view shelf.new) }
 
-    ensures absent { IsErrOf result ShelfFault.Absent → H.size shelf.old target ≡ None }
-    ensures range { IsErrOf result ShelfFault.Range →
-        IsSomeAnd (H.size shelf.old target) (λ n. n < first + length sectors.now) }
-    ensures device { IsErrOf result ShelfFault.Device →
-        (H.view shelf.old).faults < (H.view shelf.new).faults }
-
+    ensures fails { FailsAs H.Shelf shelf.old shelf.new result (IsAbsent target)
+        (EndsBefore (first + length sectors.now) target) }
     ensures keeps { Keeps H.Shelf shelf.old shelf.new }
 {
     if !sectors.is_empty() {
@@ -56,12 +53,8 @@ fn write_changes<H: Shelf>(
     ensures law { H.honest shelf.old →
         IsRunWrite target first run.now (H.view shelf.old) (H.view shelf.new) }
 
-    ensures absent { IsErrOf result ShelfFault.Absent → H.size shelf.old target ≡ None }
-    ensures range { IsErrOf result ShelfFault.Range →
-        IsSomeAnd (H.size shelf.old target) (λ n. n < first + length run.now) }
-    ensures device { IsErrOf result ShelfFault.Device →
-        (H.view shelf.old).faults < (H.view shelf.new).faults }
-
+    ensures fails { FailsAs H.Shelf shelf.old shelf.new result (IsAbsent target)
+        (EndsBefore (first + length run.now) target) }
     ensures keeps { Keeps H.Shelf shelf.old shelf.new }
 {
     let mut from = 0;
@@ -94,14 +87,8 @@ fn copy_run<H: Shelf>(
         IsUnderWay (copies (Copy source target first (first + sectors)))
         (λ q j. (H.view shelf.old).seen source j) (H.view shelf.old) (H.view shelf.new) }
 
-    ensures absent { IsErrOf result ShelfFault.Absent →
-        (H.size shelf.old source ≡ None) ⊎ (H.size shelf.old target ≡ None) }
-    ensures range { IsErrOf result ShelfFault.Range →
-        IsSomeAnd (H.size shelf.old source) (λ n. n < first + sectors)
-        ⊎ IsSomeAnd (H.size shelf.old target) (λ n. n < first + sectors) }
-    ensures device { IsErrOf result ShelfFault.Device →
-        (H.view shelf.old).faults < (H.view shelf.new).faults }
-
+    ensures fails { FailsAs H.Shelf shelf.old shelf.new result (OneOf IsAbsent source target)
+        (OneOf (EndsBefore (first + sectors)) source target) }
     ensures keeps { Keeps H.Shelf shelf.old shelf.new }
 {
     let mut held = [[0; 512]; RUN];
@@ -128,14 +115,8 @@ fn copy_runs<H: Shelf>(
     ensures under_way { H.honest shelf.old → IsUnderWay (copies (Copy source target first end))
         (λ q j. (H.view shelf.old).seen source j) (H.view shelf.old) (H.view shelf.new) }
 
-    ensures absent { IsErrOf result ShelfFault.Absent →
-        (H.size shelf.old source ≡ None) ⊎ (H.size shelf.old target ≡ None) }
-    ensures range { IsErrOf result ShelfFault.Range →
-        IsSomeAnd (H.size shelf.old source) (λ n. n < end)
-        ⊎ IsSomeAnd (H.size shelf.old target) (λ n. n < end) }
-    ensures device { IsErrOf result ShelfFault.Device →
-        (H.view shelf.old).faults < (H.view shelf.new).faults }
-
+    ensures fails { FailsAs H.Shelf shelf.old shelf.new result (OneOf IsAbsent source target)
+        (OneOf (EndsBefore end) source target) }
     ensures keeps { Keeps H.Shelf shelf.old shelf.new }
 {
     let mut place = first;
@@ -164,14 +145,8 @@ pub(crate) fn copy_sectors<H: Shelf>(
     ensures others { H.honest shelf.old →
         KeepsOthers (copies (Copy source target first end)) (H.view shelf.old) (H.view shelf.new) }
 
-    ensures absent { IsErrOf result ShelfFault.Absent →
-        (H.size shelf.old source ≡ None) ⊎ (H.size shelf.old target ≡ None) }
-    ensures range { IsErrOf result ShelfFault.Range →
-        IsSomeAnd (H.size shelf.old source) (λ n. n < end)
-        ⊎ IsSomeAnd (H.size shelf.old target) (λ n. n < end) }
-    ensures device { IsErrOf result ShelfFault.Device →
-        (H.view shelf.old).faults < (H.view shelf.new).faults }
-
+    ensures fails { FailsAs H.Shelf shelf.old shelf.new result (OneOf IsAbsent source target)
+        (OneOf (EndsBefore end) source target) }
     ensures keeps { Keeps H.Shelf shelf.old shelf.new }
 {
     copy_runs(shelf, source, target, first, end)?;

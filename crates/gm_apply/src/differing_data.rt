@@ -1,21 +1,16 @@
 //! Counts by how many of their first sectors two providers differ, by runs.
 
-ghost use Rattle.std.specs.Prelude.{◌≡◌, ◌≤◌, ◌<◌, ◌+◌, ◌^◌, ◌⊎◌, ℕ, None, length, IfOk, IsErrOf, IsSomeAnd};
+ghost use Rattle.std.specs.Prelude.{◌≡◌, ◌≤◌, ◌<◌, ◌+◌, ◌^◌, ℕ, length, IfOk};
 ghost use Rattle.gm_shelf.specs.Disk.{AreReads, sector_of};
 ghost use Rattle.gm_shelf.specs.Keeping.{ReadsOnly};
-ghost use Rattle.gm_apply.specs.EqualData.{EndsBefore};
 ghost use Rattle.gm_apply.specs.DifferingData.{IsDifference, IsWithin, count_differing, sectors_from};
+ghost use Rattle.gm_apply.specs.Failing.{IsAbsent, EndsBefore, HasFewer, OneOf, FailsAs};
 
 use crate::copy::RUN;
 use crate::equal_data::equal_first;
+use crate::watch::Watch;
 use gm_metadata::{Label, same};
 use gm_shelf::{Shelf, ShelfFault};
-
-/// Is told how far a comparison has come.
-pub trait Watch {
-    /// So many first sectors of the provider were compared, of so many in all.
-    fn compared(&mut self, provider: Label, sectors: u64, total: u64);
-}
 
 /// How two providers differ within so many first sectors.
 #[derive(Clone, Copy, Debug, PartialEq, Eq)]
@@ -72,14 +67,8 @@ fn compare_run<H: Shelf>(
         (sectors_from (H.view shelf.old).seen provider first) (length wanted.old)) }
     ensures within { IfOk result (IsWithin (length wanted.old)) }
 
-    ensures absent { IsErrOf result ShelfFault.Absent →
-        (H.size shelf.old source ≡ None) ⊎ (H.size shelf.old provider ≡ None) }
-    ensures range { IsErrOf result ShelfFault.Range →
-        IsSomeAnd (H.size shelf.old source) (λ n. n < first + length wanted.old)
-        ⊎ IsSomeAnd (H.size shelf.old provider) (λ n. n < first + length wanted.old) }
-    ensures device { IsErrOf result ShelfFault.Device →
-        (H.view shelf.old).faults < (H.view shelf.new).faults }
-
+    ensures fails { FailsAs H.Shelf shelf.old shelf.new result (OneOf IsAbsent source provider)
+        (OneOf (EndsBefore (first + length wanted.old)) source provider) }
     ensures only { ReadsOnly H.Shelf shelf.old shelf.new }
 {
     shelf.read_run(source, first, wanted)?;
@@ -123,13 +112,8 @@ pub fn differing_sectors<H: Shelf, W: Watch>(
         ((H.view shelf.old).seen source) ((H.view shelf.old).seen provider) sectors) }
     ensures within { IfOk result (IsWithin sectors) }
 
-    ensures absent { IsErrOf result ShelfFault.Absent →
-        EndsBefore (H.size shelf.old) source provider sectors }
-    ensures range { IsErrOf result ShelfFault.Range →
-        EndsBefore (H.size shelf.old) source provider sectors }
-    ensures device { IsErrOf result ShelfFault.Device →
-        (H.view shelf.old).faults < (H.view shelf.new).faults }
-
+    ensures fails { FailsAs H.Shelf shelf.old shelf.new result
+        (OneOf (HasFewer sectors) source provider) (OneOf (HasFewer sectors) source provider) }
     ensures only { ReadsOnly H.Shelf shelf.old shelf.new }
 {
     let mut wanted = [[0; 512]; RUN];

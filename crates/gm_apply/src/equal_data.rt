@@ -1,11 +1,13 @@
 //! Compares the first sectors of two providers, by runs.
 
-ghost use Rattle.std.specs.Prelude.{◌≡◌, ◌≢◌, ◌≤◌, ◌<◌, ◌+◌, ◌^◌, ◌⊎◌, ℕ, None, length, IfOk, IsErrOf, IsSomeAnd};
+ghost use Rattle.std.specs.Prelude.{◌≡◌, ◌≢◌, ◌≤◌, ◌<◌, ◌+◌, ◌^◌, ℕ, length, IfOk};
 ghost use Rattle.gm_shelf.specs.Disk.{AreReads, sector_of};
-ghost use Rattle.gm_shelf.specs.Keeping.{ReadsOnly};
-ghost use Rattle.gm_apply.specs.EqualData.{CountsEqual, EndsBefore, IsEqualPart, reach_of};
+ghost use Rattle.gm_shelf.specs.Keeping.{ReadsOnly, Looks};
+ghost use Rattle.gm_apply.specs.EqualData.{CountsEqual, IsEqualPart, reach_of};
+ghost use Rattle.gm_apply.specs.Failing.{IsAbsent, EndsBefore, HasFewer, OneOf, FailsAs};
 
 use crate::copy::RUN;
+use crate::watch::Watch;
 use gm_metadata::{Label, same};
 use gm_shelf::{Shelf, ShelfFault};
 
@@ -40,14 +42,8 @@ fn compare_run<H: Shelf>(
         (IsEqualPart (H.view shelf.old).seen source provider first sectors) }
     ensures within { IfOk result (λ n. n ≤ sectors) }
 
-    ensures absent { IsErrOf result ShelfFault.Absent →
-        (H.size shelf.old source ≡ None) ⊎ (H.size shelf.old provider ≡ None) }
-    ensures range { IsErrOf result ShelfFault.Range →
-        IsSomeAnd (H.size shelf.old source) (λ n. n < first + sectors)
-        ⊎ IsSomeAnd (H.size shelf.old provider) (λ n. n < first + sectors) }
-    ensures device { IsErrOf result ShelfFault.Device →
-        (H.view shelf.old).faults < (H.view shelf.new).faults }
-
+    ensures fails { FailsAs H.Shelf shelf.old shelf.new result (OneOf IsAbsent source provider)
+        (OneOf (EndsBefore (first + sectors)) source provider) }
     ensures only { ReadsOnly H.Shelf shelf.old shelf.new }
 {
     let mut wanted = [[0; 512]; RUN];
@@ -59,24 +55,21 @@ fn compare_run<H: Shelf>(
     Ok(equal_first(wanted, held))
 }
 
-// How many of so many first sectors are equal, run by run up to the first one that differs.
-fn compare_runs<H: Shelf>(
+// How many of so many first sectors are equal, run by run up to the first one that differs. The
+// watch is told of each run.
+fn compare_runs<H: Shelf, W: Watch>(
     shelf: &mut H,
     source: Label,
     provider: Label,
     reach: u64,
+    watch: &mut W,
 ) -> Result<u64, ShelfFault>
     ensures equal { H.honest shelf.old → IfOk result
         (CountsEqual (H.view shelf.old).seen source provider reach) }
     ensures within { IfOk result (λ n. n ≤ reach) }
 
-    ensures absent { IsErrOf result ShelfFault.Absent →
-        EndsBefore (H.size shelf.old) source provider reach }
-    ensures range { IsErrOf result ShelfFault.Range →
-        EndsBefore (H.size shelf.old) source provider reach }
-    ensures device { IsErrOf result ShelfFault.Device →
-        (H.view shelf.old).faults < (H.view shelf.new).faults }
-
+    ensures fails { FailsAs H.Shelf shelf.old shelf.new result
+        (OneOf (HasFewer reach) source provider) (OneOf (HasFewer reach) source provider) }
     ensures only { ReadsOnly H.Shelf shelf.old shelf.new }
 {
     let mut place = 0;
@@ -87,6 +80,7 @@ fn compare_runs<H: Shelf>(
             return Ok(place + equal);
         }
         place += sectors;
+        watch.compared(provider, place, reach);
     }
     Ok(place)
 }
@@ -101,27 +95,23 @@ fn reach_of<H: Shelf>(shelf: &H, source: Label, provider: Label, limit: u64) -> 
 }
 
 /// How many first sectors of two providers are equal, counted up to a limit and to the ends of
-/// both. A provider that isn't there has none. One that is compared with itself isn't read.
-pub fn equal_sectors<H: Shelf>(
+/// both. A provider that isn't there has none. One that is compared with itself isn't read. The
+/// watch is told of each run.
+pub fn equal_sectors<H: Shelf, W: Watch>(
     shelf: &mut H,
     source: Label,
     provider: Label,
     limit: u64,
+    watch: &mut W,
 ) -> Result<u64, ShelfFault>
     ensures equal { H.honest shelf.old → IfOk result (CountsEqual (H.view shelf.old).seen
         source provider (reach_of (H.size shelf.old) source provider limit)) }
     ensures within { IfOk result (λ n. n ≤ reach_of (H.size shelf.old) source provider limit) }
-
-    ensures not_absent { IsErrOf result ShelfFault.Absent → ⊥ }
-    ensures not_range { IsErrOf result ShelfFault.Range → ⊥ }
-    ensures device { IsErrOf result ShelfFault.Device →
-        (H.view shelf.old).faults < (H.view shelf.new).faults }
-
-    ensures only { ReadsOnly H.Shelf shelf.old shelf.new }
+    ensures looks { Looks H.Shelf shelf.old shelf.new result }
 {
     let reach = reach_of(shelf, source, provider, limit);
     if provider == source {
         return Ok(reach);
     }
-    compare_runs(shelf, source, provider, reach)
+    compare_runs(shelf, source, provider, reach, watch)
 }

@@ -4,7 +4,8 @@
 //! `redo.rt` has `apply`; `copy.rt` copies sectors, `patch.rt` lays bytes over them.
 //! `specs/Redo.antt` says what is left of an image at the end and at every moment on the way,
 //! `laws.rt` what follows of it. `equal_data.rt` tells how many first sectors of two providers are
-//! equal, `differing_data.rt` how many differ and which is the first of those.
+//! equal, `differing_data.rt` how many differ and which is the first of those; `watch.rt` is told
+//! how far either is.
 #![tactic(auto)]
 
 mod copy;
@@ -13,11 +14,13 @@ mod equal_data;
 mod laws;
 mod patch;
 mod redo;
+mod watch;
 
-pub use differing_data::{Difference, Watch, differing_sectors};
+pub use differing_data::{Difference, differing_sectors};
 pub use equal_data::equal_sectors;
 pub use laws::{
     every_image_leads_on, one_sector_one_value, readable_intents_are_safe,
     readable_intents_lead_somewhere, true_claims_stay_true,
 };
 pub use redo::apply;
+pub use watch::{Unwatched, Watch};

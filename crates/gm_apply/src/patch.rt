@@ -1,11 +1,12 @@
 //! Lays bytes over sectors of a provider.
 
-ghost use Rattle.std.specs.Prelude.{◌≡◌, ◌≤◌, ◌<◌, ◌+◌, ◌-◌, None, length, OnOk, IsErrOf, IsSomeAnd};
+ghost use Rattle.std.specs.Prelude.{◌≤◌, ◌+◌, ◌-◌, length, OnOk};
 ghost use Rattle.gm_metadata.specs.Images.{Same};
 ghost use Rattle.gm_shelf.specs.Disk.{sector_of};
 ghost use Rattle.gm_shelf.specs.Keeping.{Keeps};
 ghost use Rattle.gm_state.specs.declared.intents.Intent.TheVariants.{Patch};
 ghost use Rattle.gm_state.specs.Intents.{patches};
+ghost use Rattle.gm_apply.specs.Failing.{IsAbsent, EndsBefore, FailsAs};
 ghost use Rattle.gm_apply.specs.Redo.{PlacesAreNew, Moments, KeepsOthers, with_places, IsUnderWay};
 
 use crate::copy::write_stretch;
@@ -27,12 +28,8 @@ fn lay_run<H: Shelf>(
     ensures under_way { H.honest shelf.old → IsUnderWay (patches (Patch provider first end))
         (λ q j. sector_of bytes.now (j - first)) (H.view shelf.old) (H.view shelf.new) }
 
-    ensures absent { IsErrOf result ShelfFault.Absent → H.size shelf.old provider ≡ None }
-    ensures range { IsErrOf result ShelfFault.Range →
-        IsSomeAnd (H.size shelf.old provider) (λ n. n < end) }
-    ensures device { IsErrOf result ShelfFault.Device →
-        (H.view shelf.old).faults < (H.view shelf.new).faults }
-
+    ensures fails { FailsAs H.Shelf shelf.old shelf.new result (IsAbsent provider)
+        (EndsBefore end provider) }
     ensures keeps { Keeps H.Shelf shelf.old shelf.new }
 {
     if first < end {
@@ -59,12 +56,8 @@ pub(crate) fn lay_sectors<H: Shelf>(
     ensures others { H.honest shelf.old → KeepsOthers (patches (Patch provider first end))
         (H.view shelf.old) (H.view shelf.new) }
 
-    ensures absent { IsErrOf result ShelfFault.Absent → H.size shelf.old provider ≡ None }
-    ensures range { IsErrOf result ShelfFault.Range →
-        IsSomeAnd (H.size shelf.old provider) (λ n. n < end) }
-    ensures device { IsErrOf result ShelfFault.Device →
-        (H.view shelf.old).faults < (H.view shelf.new).faults }
-
+    ensures fails { FailsAs H.Shelf shelf.old shelf.new result (IsAbsent provider)
+        (EndsBefore end provider) }
     ensures keeps { Keeps H.Shelf shelf.old shelf.new }
 {
     lay_run(shelf, provider, first, end, bytes)?;

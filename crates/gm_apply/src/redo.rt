@@ -1,12 +1,13 @@
 //! Carries out intents one after another.
 
-ghost use Rattle.std.specs.Prelude.{◌≡◌, ◌≤◌, ◌<◌, ◌⊎◌, ◌&&◌, Some, None, is_some, OnOk, IsErrOf};
+ghost use Rattle.std.specs.Prelude.{◌≡◌, ◌&&◌, Some, is_some, OnOk};
 ghost use Rattle.gm_metadata.specs.Images.{Image};
 ghost use Rattle.gm_shelf.specs.Disk.{From};
 ghost use Rattle.gm_shelf.specs.Keeping.{Keeps};
 ghost use Rattle.gm_lists.specs.Ordered.{Has};
 ghost use Rattle.gm_state.specs.Intents.{names, is_place, IsRedo};
 ghost use Rattle.gm_state.specs.declared.intents.Intent.{Intent};
+ghost use Rattle.gm_apply.specs.Failing.{IsAbsent, FailsAs};
 ghost use Rattle.gm_apply.specs.Redo.{IsPartlyDone, CrashLeaves, PlacesAreNew, Moments, KeepsOthers, IsLaid, IsFound, last_of, writes, is_written, LacksProvider, LacksSector};
 
 use crate::copy::copy_sectors;
@@ -34,11 +35,8 @@ fn write_found<H: Shelf>(
         KeepsOthers (λ q j. is_some found && last_of (H.size shelf.old) provider q j)
         (H.view shelf.old) (H.view shelf.new) }
 
-    ensures absent { IsErrOf result ShelfFault.Absent → H.size shelf.old provider ≡ None }
-    ensures range { IsErrOf result ShelfFault.Range → H.size shelf.old provider ≡ Some 0 }
-    ensures device { IsErrOf result ShelfFault.Device →
-        (H.view shelf.old).faults < (H.view shelf.new).faults }
-
+    ensures fails { FailsAs H.Shelf shelf.old shelf.new result (IsAbsent provider)
+        (λ size. size provider ≡ Some 0) }
     ensures keeps { Keeps H.Shelf shelf.old shelf.new }
 {
     if let Some(metadata) = found {
@@ -64,12 +62,8 @@ fn apply_one<H: Shelf>(
         KeepsOthers (writes state.now (H.size shelf.old) intent.now)
         (H.view shelf.old) (H.view shelf.new) }
 
-    ensures absent { IsErrOf result ShelfFault.Absent
-        → LacksProvider (H.size shelf.old) intent.now }
-    ensures range { IsErrOf result ShelfFault.Range → LacksSector (H.size shelf.old) intent.now }
-    ensures device { IsErrOf result ShelfFault.Device →
-        (H.view shelf.old).faults < (H.view shelf.new).faults }
-
+    ensures fails { FailsAs H.Shelf shelf.old shelf.new result
+        (λ size. LacksProvider size intent.now) (λ size. LacksSector size intent.now) }
     ensures keeps { Keeps H.Shelf shelf.old shelf.new }
 {
     match *intent {
@@ -124,13 +118,9 @@ pub fn apply<H: Shelf>(
         (is_written state.now (H.size shelf.old) intents.now)
         (H.view shelf.old) (H.view shelf.new) }
 
-    ensures absent { IsErrOf result ShelfFault.Absent →
-        (t : Intent) × Has intents.now t × LacksProvider (H.size shelf.old) t }
-    ensures range { IsErrOf result ShelfFault.Range →
-        (t : Intent) × Has intents.now t × LacksSector (H.size shelf.old) t }
-    ensures device { IsErrOf result ShelfFault.Device →
-        (H.view shelf.old).faults < (H.view shelf.new).faults }
-
+    ensures fails { FailsAs H.Shelf shelf.old shelf.new result
+        (λ size. (t : Intent) × Has intents.now t × LacksProvider size t)
+        (λ size. (t : Intent) × Has intents.now t × LacksSector size t) }
     ensures keeps { Keeps H.Shelf shelf.old shelf.new }
 {
     for intent in intents {

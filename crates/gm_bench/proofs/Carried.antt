@@ -2,8 +2,8 @@
 use Rattle.std.proofs.Common.{◌≡◌, ◌∙◌, inl, inr, ℕ, List, [], refl, sym, ap, subst, subst₂}
 use Rattle.sqlite_trees.specs.declared.store.Store.{Ghosts}
 use Rattle.sqlite.specs.Held.{Held}
-use Rattle.gm_metadata.specs.Images.{Image, Sizes}
-use Rattle.gm_shelf.specs.Disk.{View}
+use Rattle.gm_metadata.specs.Images.{Image}
+use Rattle.gm_shelf.specs.declared.shelf.Shelf.{Ghosts as ShelfGhosts}
 use Rattle.gm_commands.specs.declared.command.Command.{Command}
 use Rattle.gm_state.specs.declared.intents.Reply.{Reply}
 use Rattle.gm_state.specs.World.{World}
@@ -26,25 +26,25 @@ use Rattle.gm_bench.proofs.RegistryLeaves.{then_only}
 use Rattle.gm_bench.proofs.Standing.{carried_so, stands_still}
 
 -- what is told of a command that is handed in to a bench that was so far before
-abbrev pub Told : {S H : Type 0} → Ghosts S → (H → View) → (H → Sizes) → Held S → Held S → H → H
+abbrev pub Told : {S H : Type 0} → Ghosts S → ShelfGhosts H → Held S → Held S → H → H
     → List ℕ → Command → Answer → Progress → Progress → Type 0
-Told g view size r s h k key c a p before =
+Told g j r s h k key c a p before =
     (it : Accepted) × (a ≡ answer_of it) × (p ≡ progress_after before it)
-    × AcceptAnswers g view size (waiting_of before) r s h k key c it
+    × AcceptAnswers g j (waiting_of before) r s h k key c it
 
 -- accepted with r and h before and s and k after, by a bench that was so far before
-module _ {S H : Type 0} (g : Ghosts S) (view : H → View) (size : H → Sizes) (r s : Held S) (h k : H)
+module _ {S H : Type 0} (g : Ghosts S) (j : ShelfGhosts H) (r s : Held S) (h k : H)
     (key : List ℕ) (c : Command) (before : Progress)
-    (leaves : AcceptLeaves g view size (waiting_of before) r s h k key c) where
-  left_step : (away : Image) (v u : World) → Stands g view size before r h away v u
-      → LeavesStep g view size r s h k away v u key c
+    (leaves : AcceptLeaves g j (waiting_of before) r s h k key c) where
+  left_step : (away : Image) (v u : World) → Stands g j before r h away v u
+      → LeavesStep g j r s h k away v u key c
   left_step away v u stands =
-      let was = carried_so g view size before r h away v u stands in
+      let was = carried_so g j before r h away v u stands in
       leaves away was.intents was.bytes v u was.at was.waits
 
   -- it was stopped before it was accepted
-  pub unaccepted : size k ≡ size h → (away : Image) (v u : World)
-      → Stands g view size before r h away v u → LeavesRun g view size r s h k away v u key c
+  pub unaccepted : j.size k ≡ j.size h → (away : Image) (v u : World)
+      → Stands g j before r h away v u → LeavesRun g j r s h k away v u key c
   unaccepted sizes away v u stands = record {
     registry = s;
     shelf = k;
@@ -54,37 +54,37 @@ module _ {S H : Type 0} (g : Ghosts S) (view : H → View) (size : H → Sizes) 
   }
 
   module _ (a : Answer) (p : Progress) (never : phase_of before ≡ phase.Pending → ⊥)
-      (told : Told g view size r s h k key c a p before) where
+      (told : Told g j r s h k key c a p before) where
     -- an answer that leaves nothing to be carried out
     rests : (it : Accepted) → p ≡ progress_after before it
         → (phase_of p ≡ phase.Pending → ⊥)
-        → AcceptAnswers g view size (waiting_of before) r s h k key c it
-        → (away : Image) (v u : World) → Stands g view size before r h away v u
-        → IsHandedIn g view size p r s h k away v u key c (answer_of it)
+        → AcceptAnswers g j (waiting_of before) r s h k key c it
+        → (away : Image) (v u : World) → Stands g j before r h away v u
+        → IsHandedIn g j p r s h k away v u key c (answer_of it)
     rests (accepted.Done n reply work) is other answers away v u stands =
         absurd (other (ap phase_of is))
     rests (accepted.Repeated n reply) is other answers away v u stands =
-        let was = carried_so g view size before r h away v u stands in
+        let was = carried_so g j before r h away v u stands in
         let it = answers away was.intents was.bytes v u was.at was.waits in (
           it.0,
           left_step away v u stands,
-          subst (λ (q : Progress). Stands g view size q s k away v u) (sym is)
-              (stands_still g view size before r s h k away v u stands it.1),
+          subst (λ (q : Progress). Stands g j q s k away v u) (sym is)
+              (stands_still g j before r s h k away v u stands it.1),
         )
     rests (accepted.Refused why) is other answers away v u stands =
-        let was = carried_so g view size before r h away v u stands in
+        let was = carried_so g j before r h away v u stands in
         let it = answers away was.intents was.bytes v u was.at was.waits in (
           it.0,
           left_step away v u stands,
-          subst (λ (q : Progress). Stands g view size q s k away v u) (sym is)
-              (stands_still g view size before r s h k away v u stands it.1),
+          subst (λ (q : Progress). Stands g j q s k away v u) (sym is)
+              (stands_still g j before r s h k away v u stands it.1),
         )
 
     pub rest_handed : (phase_of p ≡ phase.Pending → ⊥) → (away : Image) (v u : World)
-        → Stands g view size before r h away v u
-        → IsHandedIn g view size p r s h k away v u key c a
+        → Stands g j before r h away v u
+        → IsHandedIn g j p r s h k away v u key c a
     rest_handed other away v u stands =
-        subst (λ (x : Answer). IsHandedIn g view size p r s h k away v u key c x) (sym told.1)
+        subst (λ (x : Answer). IsHandedIn g j p r s h k away v u key c x) (sym told.1)
         (rests told.0 told.2 other told.3 away v u stands)
 
     module _ (pending : phase_of p ≡ phase.Pending) where
@@ -103,21 +103,21 @@ module _ {S H : Type 0} (g : Ghosts S) (view : H → View) (size : H → Sizes) 
       is_done : told.0 ≡ accepted.Done number reply work
       is_done = (was_done before told.0 p never told.2 pending).3
 
-      done : (away : Image) (v u : World) → Stands g view size before r h away v u
-          → IsDone g view size s k away u key c number reply work
+      done : (away : Image) (v u : World) → Stands g j before r h away v u
+          → IsDone g j s k away u key c number reply work
       done away v u stands =
-          let was = carried_so g view size before r h away v u stands in
+          let was = carried_so g j before r h away v u stands in
           subst (λ (x : Accepted).
-          IsAnswered g view size s k away was.intents was.bytes v u key c x) is_done
+          IsAnswered g j s k away was.intents was.bytes v u key c x) is_done
           (told.3 away was.intents was.bytes v u was.at was.waits)
 
-      pub carried_handed : (end : Held S) (l : H) (q : Progress) → end ≡ s → size k ≡ size h
-          → q ≡ Applied work → ApplyDoes g view size s k l work → ApplyLeaves g view size s k l work
-          → (away : Image) (v u : World) → Stands g view size before r h away v u
-          → IsHandedIn g view size q r end h l away v u key c a
+      pub carried_handed : (end : Held S) (l : H) (q : Progress) → end ≡ s → j.size k ≡ j.size h
+          → q ≡ Applied work → ApplyDoes g j s k l work → ApplyLeaves g j s k l work
+          → (away : Image) (v u : World) → Stands g j before r h away v u
+          → IsHandedIn g j q r end h l away v u key c a
       carried_handed end l q same sizes is does goes away v u stands =
           let d = done away v u stands in
-          let carries : Carries g view size r s h l away v u d.world key c = record {
+          let carries : Carries g j r s h l away v u d.world key c = record {
             registry = s;
             shelf = k;
             sizes = sizes;
@@ -125,21 +125,21 @@ module _ {S H : Type 0} (g : Ghosts S) (view : H → View) (size : H → Sizes) 
             pending = (work, d.at);
             carrying = goes away u d.world d.at;
           } in
-          let standing : Stands g view size q s l away u d.world =
-          subst (λ (x : Progress). Stands g view size x s l away u d.world) (sym is)
+          let standing : Stands g j q s l away u d.world =
+          subst (λ (x : Progress). Stands g j x s l away u d.world) (sym is)
           (does away u d.world d.at) in
-          subst (λ (x : Answer). IsHandedIn g view size q r end h l away v u key c x)
+          subst (λ (x : Answer). IsHandedIn g j q r end h l away v u key c x)
           (sym (told.1 ∙ (λ i. answer_of (is_done i))))
-          (subst (λ (x : Held S). IsHandedIn g view size q r x h l away v u key c
+          (subst (λ (x : Held S). IsHandedIn g j q r x h l away v u key c
           (Done number reply)) (sym same) (d.world, d.calls, carries, standing))
 
-      pub uncarried : (end : Held S) (l : H) → end ≡ s → size k ≡ size h
-          → ApplyLeaves g view size s k l work
-          → (away : Image) (v u : World) → Stands g view size before r h away v u
-          → LeavesRun g view size r end h l away v u key c
+      pub uncarried : (end : Held S) (l : H) → end ≡ s → j.size k ≡ j.size h
+          → ApplyLeaves g j s k l work
+          → (away : Image) (v u : World) → Stands g j before r h away v u
+          → LeavesRun g j r end h l away v u key c
       uncarried end l same sizes goes away v u stands =
           let d = done away v u stands in
-          subst (λ (x : Held S). LeavesRun g view size r x h l away v u key c) (sym same)
+          subst (λ (x : Held S). LeavesRun g j r x h l away v u key c) (sym same)
           (record {
             registry = s;
             shelf = k;
@@ -149,11 +149,11 @@ module _ {S H : Type 0} (g : Ghosts S) (view : H → View) (size : H → Sizes) 
           })
 
 -- a command that was handed in to a bench at rest, and what is settled then
-module _ {S H : Type 0} (g : Ghosts S) (view : H → View) (size : H → Sizes) (r mid s : Held S)
+module _ {S H : Type 0} (g : Ghosts S) (j : ShelfGhosts H) (r mid s : Held S)
     (h k l : H) (key : List ℕ) (c : Command) (p : Progress) (away : Image) (u : World) where
-  pub run_answers : (a : Answer) → IsHandedIn g view size p r mid h k away u u key c a
-      → ((v w : World) → Stands g view size p mid k away v w
-      → IsAt g view size s l away [] [] w w) → IsRun g view size s l away u key c a
+  pub run_answers : (a : Answer) → IsHandedIn g j p r mid h k away u u key c a
+      → ((v w : World) → Stands g j p mid k away v w
+      → IsAt g j s l away [] [] w w) → IsRun g j s l away u key c a
   run_answers (Done n told) it settles =
       record { world = it.0; calls = it.1; at = settles u it.0 it.3 }
   run_answers (Repeated n told) it settles =
@@ -161,11 +161,11 @@ module _ {S H : Type 0} (g : Ghosts S) (view : H → View) (size : H → Sizes) 
   run_answers (Refused why) it settles =
       record { world = u; calls = it.0; at = settles u u it.2 }
 
-  undone_leaves : s ≡ mid → l ≡ k → size k ≡ size h
-      → LeavesStep g view size r mid h k away u u key c
-      → LeavesRun g view size r s h l away u u key c
+  undone_leaves : s ≡ mid → l ≡ k → j.size k ≡ j.size h
+      → LeavesStep g j r mid h k away u u key c
+      → LeavesRun g j r s h l away u u key c
   undone_leaves same there sizes step =
-      subst₂ (λ (x : Held S) (y : H). LeavesRun g view size r x h y away u u key c) (sym same)
+      subst₂ (λ (x : Held S) (y : H). LeavesRun g j r x h y away u u key c) (sym same)
       (sym there) (record {
         registry = mid;
         shelf = k;
@@ -174,11 +174,11 @@ module _ {S H : Type 0} (g : Ghosts S) (view : H → View) (size : H → Sizes) 
         carrying = inl (refl, refl);
       })
 
-  pub run_leaves : (a : Answer) → IsHandedIn g view size p r mid h k away u u key c a
+  pub run_leaves : (a : Answer) → IsHandedIn g j p r mid h k away u u key c a
       → phase_of p ≡ phase_carried phase.Ready a → (p ≡ Ready → (s ≡ mid) × (l ≡ k))
-      → size k ≡ size h → l ≡ k
-      → ((v w : World) → Stands g view size p mid k away v w
-      → LeavesOnly g view size mid s k l away v w) → LeavesRun g view size r s h l away u u key c
+      → j.size k ≡ j.size h → l ≡ k
+      → ((v w : World) → Stands g j p mid k away v w
+      → LeavesOnly g j mid s k l away v w) → LeavesRun g j r s h l away u u key c
   run_leaves (Done n told) it is still sizes same settling = record {
     registry = it.2.registry;
     shelf = it.2.shelf;
@@ -189,7 +189,7 @@ module _ {S H : Type 0} (g : Ghosts S) (view : H → View) (size : H → Sizes) 
       told,
       it.1.3,
       it.2.pending,
-      then_only g view size it.2.registry mid s it.2.shelf k l away u it.0 same
+      then_only g j it.2.registry mid s it.2.shelf k l away u it.0 same
           (sizes ∙ sym it.2.sizes) it.2.carrying (settling u it.0 it.3),
     );
   }

@@ -3,8 +3,9 @@ use Rattle.std.proofs.Common.{◌≡◌, ◌∙◌, ℕ, List, [], refl, sym, ap
 use Rattle.std.specs.List.Sorted.{IsPermutation}
 use Rattle.sqlite_trees.specs.declared.store.Store.{Ghosts}
 use Rattle.sqlite.specs.Held.{Held}
-use Rattle.gm_metadata.specs.Images.{Image, Sizes}
-use Rattle.gm_shelf.specs.Disk.{View, IsLawful}
+use Rattle.gm_metadata.specs.Images.{Image}
+use Rattle.gm_shelf.specs.declared.shelf.Shelf.{Ghosts as ShelfGhosts}
+use Rattle.gm_shelf.specs.Disk.{IsLawful}
 use Rattle.gm_state.specs.declared.intents.Intent.{Intent}
 use Rattle.gm_state.specs.Records.{Records}
 use Rattle.gm_state.specs.Rows.{Tables, HoldRecords, intent_rows, patch_rows}
@@ -47,11 +48,11 @@ left_records Done t s are = record {
   rows = record { mirrors = are.rows.mirrors; components = are.rows.components };
 }
 
-module _ {S H : Type 0} (g : Ghosts S) (view : H → View) (size : H → Sizes) (r : Held S) (h : H)
+module _ {S H : Type 0} (g : Ghosts S) (j : ShelfGhosts H) (r : Held S) (h : H)
     (away : Image) where
   module _ (ts : List Intent) (bytes : List (List ℕ)) (u w : World) where
-    abbrev pub carried_out : IsAt g view size r h away ts bytes u w
-        → IsShelfOf (view h) w (size h) → IsCarriedOut g view size r h away ts bytes u w
+    abbrev pub carried_out : IsAt g j r h away ts bytes u w
+        → IsShelfOf (j.view h) w (j.size h) → IsCarriedOut g j r h away ts bytes u w
     carried_out at shelf = record {
       tables = at.tables;
       has = at.has;
@@ -61,8 +62,8 @@ module _ {S H : Type 0} (g : Ghosts S) (view : H → View) (size : H → Sizes) 
       shelf = shelf;
     }
 
-    abbrev pub at_of : IsCarriedOut g view size r h away ts bytes u w
-        → IsAt g view size r h away ts bytes u w
+    abbrev pub at_of : IsCarriedOut g j r h away ts bytes u w
+        → IsAt g j r h away ts bytes u w
     at_of at = record {
       tables = at.tables;
       has = at.has;
@@ -71,20 +72,20 @@ module _ {S H : Type 0} (g : Ghosts S) (view : H → View) (size : H → Sizes) 
       leads = at.leads;
     }
 
-    module _ (at : IsCarriedOut g view size r h away ts bytes u w) (lawful : IsLawful (view h))
+    module _ (at : IsCarriedOut g j r h away ts bytes u w) (lawful : IsLawful (j.view h))
       where
-        pub seen_leads : Leads at.tables ts bytes (whole (size h) away (view h).seen) w
-        seen_leads = (at.leads (view h).seen lawful.holds_now).0
+        pub seen_leads : Leads at.tables ts bytes (whole (j.size h) away (j.view h).seen) w
+        seen_leads = (at.leads (j.view h).seen lawful.holds_now).0
 
-        mask : AreAmong (size h) w.size
-        mask = masked w (size h) at.sizes
+        mask : AreAmong (j.size h) w.size
+        mask = masked w (j.size h) at.sizes
 
-        pub settled_leads : (x : Image) → (view h).may_leave x
-            → Leads (settled at.tables) [] [] (whole (size h) away x) w
+        pub settled_leads : (x : Image) → (j.view h).may_leave x
+            → Leads (settled at.tables) [] [] (whole (j.size h) away x) w
         settled_leads x left =
-            rest_leads (settled at.tables) (whole (size h) away x) w seen_leads.sound
+            rest_leads (settled at.tables) (whole (j.size h) away x) w seen_leads.sound
             (settled_records w at.tables seen_leads.records) refl refl
-            (whole_rest at.tables ts bytes (size h) away (view h).seen x w mask at.at_hand
+            (whole_rest at.tables ts bytes (j.size h) away (j.view h).seen x w mask at.at_hand
             seen_leads
             (at.shelf x left))
 
@@ -100,15 +101,15 @@ module _ {S H : Type 0} (g : Ghosts S) (view : H → View) (size : H → Sizes) 
         left_settled Done none = refl
 
   -- at rest the shelf is the world's
-  abbrev pub done_at_rest : (u : World) → IsAt g view size r h away [] [] u u
-      → IsCarriedOut g view size r h away [] [] u u
+  abbrev pub done_at_rest : (u : World) → IsAt g j r h away [] [] u u
+      → IsCarriedOut g j r h away [] [] u u
   done_at_rest u at = record {
     tables = at.tables;
     has = at.has;
     sizes = at.sizes;
     at_hand = at.at_hand;
     leads = at.leads;
-    shelf = λ x left q there j. sym (whole_there (size h) away x q there j)
-        ∙ at_rest at.tables (whole (size h) away x) u (at.leads x left).0 q
-        (there_full (size h) u.size (masked u (size h) at.sizes) q there) j;
+    shelf = λ x left q there i. sym (whole_there (j.size h) away x q there i)
+        ∙ at_rest at.tables (whole (j.size h) away x) u (at.leads x left).0 q
+        (there_full (j.size h) u.size (masked u (j.size h) at.sizes) q there) i;
   }

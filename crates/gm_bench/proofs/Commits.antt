@@ -3,7 +3,8 @@ use Rattle.std.proofs.Common.{◌≡◌, ◌∙◌, inl, inr, ℕ, ◌+◌, List
 use Rattle.sqlite_trees.specs.declared.store.Store.{Ghosts}
 use Rattle.sqlite.specs.Held.{Held}
 use Rattle.gm_metadata.specs.Images.{Image, Sizes}
-use Rattle.gm_shelf.specs.Disk.{View, IsLawful}
+use Rattle.gm_shelf.specs.declared.shelf.Shelf.{Ghosts as ShelfGhosts}
+use Rattle.gm_shelf.specs.Disk.{IsLawful}
 use Rattle.gm_commands.specs.declared.command.Command.{Command}
 use Rattle.gm_state.specs.declared.intents.Intent.{Intent}
 use Rattle.gm_state.specs.declared.intents.Reply.{Reply}
@@ -31,10 +32,10 @@ use Rattle.gm_bench.proofs.CommitLeadsOn.{commit_leads, commit_claims}
 use Rattle.gm_bench.proofs.PartCovers.{covers_after}
 use Rattle.gm_bench.proofs.RegistryLeaves.{leads_in}
 
-module _ {S H : Type 0} (g : Ghosts S) (view : H → View) (size : H → Sizes) (r s : Held S) (h : H)
+module _ {S H : Type 0} (g : Ghosts S) (j : ShelfGhosts H) (r s : Held S) (h : H)
     (away : Image) (ts : List Intent) (bytes : List (List ℕ)) (v u : World) (key : List ℕ)
     (c : Command) (p : Planned) (words : List ℕ) (words_is : words ≡ words_of c)
-    (lawful : IsLawful (view h)) (at : IsCarriedOut g view size r h away ts bytes v u)
+    (lawful : IsLawful (j.view h)) (at : IsCarriedOut g j r h away ts bytes v u)
     (planned : IsPlanned u c p) (can : CanAnswer u key c) where
   abbrev ch : Changed
   ch = p.change
@@ -43,11 +44,11 @@ module _ {S H : Type 0} (g : Ghosts S) (view : H → View) (size : H → Sizes) 
   abbrev rest : Tables
   rest = settled at.tables
 
-  rest_leads : (x : Image) → (view h).may_leave x → Leads rest [] [] (whole (size h) away x) u
-  rest_leads = settled_leads g view size r h away ts bytes v u at lawful
+  rest_leads : (x : Image) → (j.view h).may_leave x → Leads rest [] [] (whole (j.size h) away x) u
+  rest_leads = settled_leads g j r h away ts bytes v u at lawful
 
-  first_leads : Leads rest [] [] (whole (size h) away (view h).seen) u
-  first_leads = rest_leads (view h).seen lawful.holds_now
+  first_leads : Leads rest [] [] (whole (j.size h) away (j.view h).seen) u
+  first_leads = rest_leads (j.view h).seen lawful.holds_now
 
   abbrev has_plan : HasPlan u key c
   has_plan = every_plan u key c first_leads.sound can planned.makes.good
@@ -65,24 +66,24 @@ module _ {S H : Type 0} (g : Ghosts S) (view : H → View) (size : H → Sizes) 
   abbrev t : Tables
   t = with_accepted p.change key words rest
 
-  leads : AllLead t p.change.intents p.change.bytes (size h) away (view h).may_leave u w
+  leads : AllLead t p.change.intents p.change.bytes (j.size h) away (j.view h).may_leave u w
   leads x left = (
     subst (λ (text : List ℕ). Leads (with_accepted p.change key text rest) p.change.intents
-        p.change.bytes (whole (size h) away x) w) (sym words_is)
-        (commit_leads u w key c p.change rest (whole (size h) away x) planned.makes plan
+        p.change.bytes (whole (j.size h) away x) w) (sym words_is)
+        (commit_leads u w key c p.change rest (whole (j.size h) away x) planned.makes plan
         (rest_leads x left)),
-    commit_claims u w key c p.change rest (whole (size h) away x) planned.makes plan
+    commit_claims u w key c p.change rest (whole (j.size h) away x) planned.makes plan
         (rest_leads x left),
   )
 
   pub commit_leaves : CrashLeavesOnly g r at.tables → DiskKept g s → MayLeave g r s t
-      → LeavesStep g view size r s h h away v u key c
+      → LeavesStep g j r s h h away v u key c
   commit_leaves only clean may = record {
-    within = leads_in g view size r h away at.tables ts bytes v u only
-        ((view h).left_since (view h).moment) (λ x left. at.leads x (lawful.only_now x left));
+    within = leads_in g j r h away at.tables ts bytes v u only
+        ((j.view h).left_since (j.view h).moment) (λ x left. at.leads x (lawful.only_now x left));
     end = λ db left. elim (may.crash clean db left) [
-      | inl was ↦ inl (leads_in g view size r h away at.tables ts bytes v u only
-          (view h).may_leave at.leads db was)
+      | inl was ↦ inl (leads_in g j r h away at.tables ts bytes v u only
+          (j.view h).may_leave at.leads db was)
       | inr is ↦ inr (
         w,
         reply_to c u.state,
@@ -108,7 +109,7 @@ module _ {S H : Type 0} (g : Ghosts S) (view : H → View) (size : H → Sizes) 
   same_present = λ i q. if plan.step.there q i then plan.step.sizes q i else None
 
   pub commit_done : (n : ℕ) (reply : Reply) → reply ≡ p.change.reply → n ≡ count_of at.tables + 1
-      → HasSaved g s t → IsDone g view size s h away u key c n reply p.work
+      → HasSaved g s t → IsDone g j s h away u key c n reply p.work
   commit_done n reply reply_is number_is saved = record {
     world = w;
     calls = subst (λ (a : Reply). run.Calls u (record { key = key; command = c }) w (run.Done n a))
@@ -117,7 +118,7 @@ module _ {S H : Type 0} (g : Ghosts S) (view : H → View) (size : H → Sizes) 
         can.room w (reply_to c u.state) n plan.step number_is);
     at = record {
       at = subst₂ (λ (is : List Intent) (bs : List (List ℕ)).
-          IsAt g view size s h away is bs u w) (sym planned.intents) (sym planned.bytes)
+          IsAt g j s h away is bs u w) (sym planned.intents) (sym planned.bytes)
           (record {
             tables = t;
             has = saved.tables;

@@ -8,7 +8,8 @@ use Rattle.sqlite.specs.Effect.{Database}
 use Rattle.sqlite.specs.Schema.{Schema}
 use Rattle.sqlite.specs.Tree.{Trees}
 use Rattle.gm_metadata.specs.Images.{Image, Sizes}
-use Rattle.gm_shelf.specs.Disk.{View, IsLawful, IsQuiet}
+use Rattle.gm_shelf.specs.declared.shelf.Shelf.{Ghosts as ShelfGhosts}
+use Rattle.gm_shelf.specs.Disk.{IsLawful, IsQuiet}
 use Rattle.gm_shelf.proofs.InTurn.{quiet_itself, quiet_moment}
 use Rattle.gm_commands.specs.declared.command.Command.{Command}
 use Rattle.gm_state.specs.declared.intents.Intent.{Intent}
@@ -30,106 +31,107 @@ use Rattle.gm_bench.proofs.RegistryLeaves.{leads_in}
 use Rattle.gm_registry.proofs.CallsLeave.{IsSettling, saved}
 use Rattle.gm_state.specs.Rows.{Tables}
 
-module _ {S H : Type 0} (g : Ghosts S) (view : H → View) (size : H → Sizes) (r : Held S) (h : H)
+module _ {S H : Type 0} (g : Ghosts S) (j : ShelfGhosts H) (r : Held S) (h : H)
     (away : Image) (ts : List Intent) (bytes : List (List ℕ)) (u w : World)
-    (at : IsAt g view size r h away ts bytes u w) where
-  abbrev pub found_of : IsFound g view size r h away ts bytes u w
+    (at : IsAt g j r h away ts bytes u w) where
+  abbrev pub found_of : IsFound g j r h away ts bytes u w
   found_of = record { tables = at.tables; has = at.has; sizes = at.sizes; leads = at.leads }
 
 -- a shelf that was only read
-module _ {S H : Type 0} (g : Ghosts S) (view : H → View) (size : H → Sizes) (r : Held S) (h k : H)
+module _ {S H : Type 0} (g : Ghosts S) (j : ShelfGhosts H) (r : Held S) (h k : H)
     (away : Image) (ts : List Intent) (bytes : List (List ℕ)) (u w : World)
-    (at : IsAt g view size r h away ts bytes u w)
-    (quiet : IsQuiet (view h) (view k)) (same : size k ≡ size h) where
+    (at : IsAt g j r h away ts bytes u w)
+    (quiet : IsQuiet (j.view h) (j.view k)) (same : j.size k ≡ j.size h) where
   -- the same tables, in whatever phase
   abbrev pub at_read : (s : Held S) → HasTables g s at.tables
-      → IsAt g view size s k away ts bytes u w
+      → IsAt g j s k away ts bytes u w
   at_read s has = record {
     tables = at.tables;
     has = has;
     sizes = at.sizes ∙ sym same;
     at_hand = subst (λ (z : Sizes). (t : Intent) → Has ts t → IsAtHand z t) (sym same) at.at_hand;
-    leads = subst (λ (z : Sizes). AllLead at.tables ts bytes z away (view k).may_leave u w)
+    leads = subst (λ (z : Sizes). AllLead at.tables ts bytes z away (j.view k).may_leave u w)
         (sym same)
         (λ x left. at.leads x (quiet.crash x left));
   }
 
 -- a shelf that wasn't touched
-pub quiet_same : {H : Type 0} (view : H → View) (h k : H) → k ≡ h → IsQuiet (view h) (view k)
-quiet_same view h k same = subst (λ x. IsQuiet (view h) (view x)) (sym same) (quiet_itself (view h))
+pub quiet_same : {H : Type 0} (j : ShelfGhosts H) (h k : H) → k ≡ h
+    → IsQuiet (j.view h) (j.view k)
+quiet_same j h k same =
+    subst (λ x. IsQuiet (j.view h) (j.view x)) (sym same) (quiet_itself (j.view h))
 
 -- a bench whose intents are done, and whose shelf was only read
-module _ {S H : Type 0} (g : Ghosts S) (view : H → View) (size : H → Sizes) (r : Held S) (h k : H)
+module _ {S H : Type 0} (g : Ghosts S) (j : ShelfGhosts H) (r : Held S) (h k : H)
     (away : Image) (ts : List Intent) (bytes : List (List ℕ)) (v u : World)
-    (at : IsCarriedOut g view size r h away ts bytes v u)
-    (lawful : IsLawful (view h))
-    (quiet : IsQuiet (view h) (view k)) (same : size k ≡ size h) where
-  abbrev moments : AllLead at.tables ts bytes (size h) away ((view k).left_since (view h).moment) v
-      u
-  moments x left = at.leads x (quiet_moment (view h) (view k) lawful quiet x left)
+    (at : IsCarriedOut g j r h away ts bytes v u)
+    (lawful : IsLawful (j.view h))
+    (quiet : IsQuiet (j.view h) (j.view k)) (same : j.size k ≡ j.size h) where
+  abbrev moments : AllLead at.tables ts bytes (j.size h) away
+      ((j.view k).left_since (j.view h).moment) v u
+  moments x left = at.leads x (quiet_moment (j.view h) (j.view k) lawful quiet x left)
 
-  abbrev now : AllLead at.tables ts bytes (size h) away (view k).may_leave v u
+  abbrev now : AllLead at.tables ts bytes (j.size h) away (j.view k).may_leave v u
   now x left = at.leads x (quiet.crash x left)
 
   -- the same tables
-  abbrev pub still : (s : Held S) → HasTables g s at.tables → IsCarriedOut g view size s k away ts
-      bytes v u
+  abbrev pub still : (s : Held S) → HasTables g s at.tables → IsCarriedOut g j s k away ts bytes v u
   still s has = record {
     tables = at.tables;
     has = has;
     sizes = at.sizes ∙ sym same;
     at_hand = subst (λ (z : Sizes). (t : Intent) → Has ts t → IsAtHand z t) (sym same) at.at_hand;
-    leads = subst (λ (z : Sizes). AllLead at.tables ts bytes z away (view k).may_leave v u)
+    leads = subst (λ (z : Sizes). AllLead at.tables ts bytes z away (j.view k).may_leave v u)
         (sym same) now;
-    shelf = subst (λ (z : Sizes). IsShelfOf (view k) u z) (sym same)
+    shelf = subst (λ (z : Sizes). IsShelfOf (j.view k) u z) (sym same)
         (λ x left. at.shelf x (quiet.crash x left));
   }
 
   before_step : CrashLeavesOnly g r at.tables → (db : Trees) → CrashLeaves g r db
-      → Recovers db (size h) away ((view k).left_since (view h).moment) v u
+      → Recovers db (j.size h) away ((j.view k).left_since (j.view h).moment) v u
   before_step only =
-      leads_in g view size r h away at.tables ts bytes v u only
-      ((view k).left_since (view h).moment) moments
+      leads_in g j r h away at.tables ts bytes v u only
+      ((j.view k).left_since (j.view h).moment) moments
 
   -- a registry that was only read
   pub unstepped : (s : Held S) (key : List ℕ) (c : Command) → CrashLeavesOnly g r at.tables
-      → DiskKept g s → LeavesNothingNew g r s → LeavesStep g view size r s h k away v u key c
+      → DiskKept g s → LeavesNothingNew g r s → LeavesStep g j r s h k away v u key c
   unstepped s key c only clean nothing = record {
     within = before_step only;
     end = λ db left. elim (nothing.crash clean db left) [
-      | inl was ↦ inl (leads_in g view size r h away at.tables ts bytes v u only
-          (view k).may_leave now db was)
+      | inl was ↦ inl (leads_in g j r h away at.tables ts bytes v u only
+          (j.view k).may_leave now db was)
       | inr none ↦ absurd none
     ];
   }
 
   -- reads, and then more reads and a commit
-  pub then_step : (mid s : Held S) (l : H) (key : List ℕ) (c : Command) → IsQuiet (view h) (view l)
-      → CrashLeavesOnly g r at.tables → LeavesStep g view size mid s k l away v u key c
-      → LeavesStep g view size r s h l away v u key c
+  pub then_step : (mid s : Held S) (l : H) (key : List ℕ) (c : Command)
+      → IsQuiet (j.view h) (j.view l)
+      → CrashLeavesOnly g r at.tables → LeavesStep g j mid s k l away v u key c
+      → LeavesStep g j r s h l away v u key c
   then_step mid s l key c all only leaves = record {
-    within = leads_in g view size r h away at.tables ts bytes v u only
-        ((view l).left_since (view h).moment)
-        (λ x left. at.leads x (quiet_moment (view h) (view l) lawful all x left));
+    within = leads_in g j r h away at.tables ts bytes v u only
+        ((j.view l).left_since (j.view h).moment)
+        (λ x left. at.leads x (quiet_moment (j.view h) (j.view l) lawful all x left));
     end = λ db left.
-        subst (λ (z : Sizes). OrStep v u key c (λ x w. Recovers db z away (view l).may_leave x w))
+        subst (λ (z : Sizes). OrStep v u key c (λ x w. Recovers db z away (j.view l).may_leave x w))
         same
         (leaves.end db left);
   }
 
 -- nothing was asked
-pub unstepped_same : {S H : Type 0} (g : Ghosts S) (view : H → View) (size : H
-    → Sizes) (r : Held S) (h : H) (away : Image)
-    (ts : List Intent) (bytes : List (List ℕ)) (v u : World)
-    (at : IsCarriedOut g view size r h away ts bytes v u)
-    (lawful : IsLawful (view h)) (key : List ℕ) (c : Command) → CrashLeavesOnly g r at.tables
-    → LeavesStep g view size r r h h away v u key c
-unstepped_same g view size r h away ts bytes v u at lawful key c only = record {
-  within = leads_in g view size r h away at.tables ts bytes v u only
-      ((view h).left_since (view h).moment)
+pub unstepped_same : {S H : Type 0} (g : Ghosts S) (j : ShelfGhosts H) (r : Held S) (h : H)
+    (away : Image) (ts : List Intent) (bytes : List (List ℕ)) (v u : World)
+    (at : IsCarriedOut g j r h away ts bytes v u)
+    (lawful : IsLawful (j.view h)) (key : List ℕ) (c : Command) → CrashLeavesOnly g r at.tables
+    → LeavesStep g j r r h h away v u key c
+unstepped_same g j r h away ts bytes v u at lawful key c only = record {
+  within = leads_in g j r h away at.tables ts bytes v u only
+      ((j.view h).left_since (j.view h).moment)
       (λ x left. at.leads x (lawful.only_now x left));
-  end = λ db left. inl (leads_in g view size r h away at.tables ts bytes v u only
-      (view h).may_leave at.leads db left);
+  end = λ db left. inl (leads_in g j r h away at.tables ts bytes v u only
+      (j.view h).may_leave at.leads db left);
 }
 
 -- what is answered at Ok, in other words

@@ -2,8 +2,9 @@
 use Rattle.std.proofs.Common.{◌≡◌, ℕ, List, None, sym, subst}
 use Rattle.sqlite_trees.specs.declared.store.Store.{Ghosts}
 use Rattle.sqlite.specs.Held.{Held}
-use Rattle.gm_metadata.specs.Images.{Image, Sizes}
-use Rattle.gm_shelf.specs.Disk.{View, IsLawful}
+use Rattle.gm_metadata.specs.Images.{Image}
+use Rattle.gm_shelf.specs.declared.shelf.Shelf.{Ghosts as ShelfGhosts}
+use Rattle.gm_shelf.specs.Disk.{IsLawful}
 use Rattle.gm_state.specs.declared.intents.Intent.{Intent}
 use Rattle.gm_state.specs.Intents.{IsOf, IsAtHand}
 use Rattle.gm_state.specs.Records.{Records, IsState}
@@ -18,15 +19,14 @@ use Rattle.gm_bench.specs.Presence.{first_absent}
 use Rattle.gm_bench.proofs.Present.{at_hand}
 use Rattle.gm_bench.proofs.ReadTables.{tables_of}
 
-module _ {S H : Type 0} (g : Ghosts S) (view : H → View) (size : H
-    → Sizes) (r : Held S) (h : H) (away : Image) (ts : List Intent) (bytes : List (List ℕ))
-    (u w : World)
-    (at : IsFound g view size r h away ts bytes u w) (lawful : IsLawful (view h)) where
-  pub lead : Leads at.tables ts bytes (whole (size h) away (view h).seen) w
-  lead = (at.leads (view h).seen lawful.holds_now).0
+module _ {S H : Type 0} (g : Ghosts S) (j : ShelfGhosts H) (r : Held S) (h : H) (away : Image)
+    (ts : List Intent) (bytes : List (List ℕ)) (u w : World)
+    (at : IsFound g j r h away ts bytes u w) (lawful : IsLawful (j.view h)) where
+  pub lead : Leads at.tables ts bytes (whole (j.size h) away (j.view h).seen) w
+  lead = (at.leads (j.view h).seen lawful.holds_now).0
 
   pub readable : AreTablesOf at.tables w.state ts bytes
-  readable = tables_of at.tables ts bytes (whole (size h) away (view h).seen) w lead
+  readable = tables_of at.tables ts bytes (whole (j.size h) away (j.view h).seen) w lead
 
   -- what is loaded is the world's
   pub loaded : (s : Records) (is : List Intent) (laid : List (List ℕ))
@@ -42,27 +42,24 @@ cover_whole s w ts same state = record {
 }
 
 -- with all images at hand
-abbrev pub found_at : {S H : Type 0} (g : Ghosts S) (view : H → View) (size : H
-    → Sizes) (r : Held S) (h : H) (away : Image) (ts : List Intent) (bytes : List (List ℕ))
-    (u w : World)
-    → IsFound g view size r h away ts bytes u w → ((t : Intent) → Has ts t → IsAtHand (size h) t)
-    → IsAt g view size r h away ts bytes u w
-found_at g view size r h away ts bytes u w at hand =
+abbrev pub found_at : {S H : Type 0} (g : Ghosts S) (j : ShelfGhosts H) (r : Held S) (h : H)
+    (away : Image) (ts : List Intent) (bytes : List (List ℕ)) (u w : World)
+    → IsFound g j r h away ts bytes u w → ((t : Intent) → Has ts t → IsAtHand (j.size h) t)
+    → IsAt g j r h away ts bytes u w
+found_at g j r h away ts bytes u w at hand =
     record { tables = at.tables; has = at.has; sizes = at.sizes; at_hand = hand; leads = at.leads }
 
-module _ {S H : Type 0} (g : Ghosts S) (view : H → View) (size : H
-    → Sizes) (r : Held S) (h : H) (away : Image) (ts : List Intent) (bytes : List (List ℕ))
-    (u w : World)
-    (at : IsFound g view size r h away ts bytes u w) (lawful : IsLawful (view h)) (s : Records)
+module _ {S H : Type 0} (g : Ghosts S) (j : ShelfGhosts H) (r : Held S) (h : H) (away : Image)
+    (ts : List Intent) (bytes : List (List ℕ)) (u w : World)
+    (at : IsFound g j r h away ts bytes u w) (lawful : IsLawful (j.view h)) (s : Records)
     (same : s ≡ w.state) where
   -- if no image is lacking
-  abbrev pub ready : first_absent s (size h) ts ≡ None → IsAt g view size r h away ts bytes u w
+  abbrev pub ready : first_absent s (j.size h) ts ≡ None → IsAt g j r h away ts bytes u w
   ready none =
-      let l = lead g view size r h away ts bytes u w at lawful in
-      found_at g view size r h away ts bytes u w at
-      (at_hand w.state (size h) l.sound.state ts l.readable.each
-      (subst (λ (x : Records). first_absent x (size h) ts ≡ None) same none))
+      let l = lead g j r h away ts bytes u w at lawful in
+      found_at g j r h away ts bytes u w at
+      (at_hand w.state (j.size h) l.sound.state ts l.readable.each
+      (subst (λ (x : Records). first_absent x (j.size h) ts ≡ None) same none))
 
   pub covered : Cover s w.state ts
-  covered = cover_whole s w.state ts same (lead g view size r h away ts bytes u w at
-      lawful).sound.state
+  covered = cover_whole s w.state ts same (lead g j r h away ts bytes u w at lawful).sound.state

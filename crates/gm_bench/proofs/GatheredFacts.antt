@@ -3,7 +3,7 @@ use Rattle.std.proofs.Common.{◌≡◌, ◌∙◌, ℕ, List, [], Option, None,
 use Rattle.sqlite_trees.specs.declared.store.Store.{Ghosts}
 use Rattle.sqlite.specs.Held.{Held}
 use Rattle.gm_metadata.specs.Images.{Image, Sizes}
-use Rattle.gm_shelf.specs.Disk.{View, IsLawful}
+use Rattle.gm_shelf.specs.Disk.{IsLawful}
 use Rattle.gm_shelf.specs.declared.shelf.Shelf.{Ghosts as ShelfGhosts}
 use Rattle.gm_commands.specs.declared.command.Command.{Command}
 use Rattle.gm_commands.specs.declared.command.Command.TheVariants.{Adopt}
@@ -36,12 +36,12 @@ adopted_needed : (s : Records) (c : Command) (p : List ℕ) → Has (adopted_fro
 adopted_needed s (Adopt n ps) p h = Has-append_left ps (map provider (awaited s (Adopt n ps))) p h
 adopted_needed s _ p h = absurd h
 
-module _ {S H : Type 0} (g : Ghosts S) (view : H → View) (size : H → Sizes) (r : Held S) (h : H)
+module _ {S H : Type 0} (g : Ghosts S) (j : ShelfGhosts H) (r : Held S) (h : H)
     (away : Image) (ts : List Intent) (bytes : List (List ℕ)) (v u : World)
-    (at : IsCarriedOut g view size r h away ts bytes v u) (lawful : IsLawful (view h)) where
-  leads : Leads (settled at.tables) [] [] (whole (size h) away (view h).seen) u
+    (at : IsCarriedOut g j r h away ts bytes v u) (lawful : IsLawful (j.view h)) where
+  leads : Leads (settled at.tables) [] [] (whole (j.size h) away (j.view h).seen) u
   leads =
-      settled_leads g view size r h away ts bytes v u at lawful (view h).seen lawful.holds_now
+      settled_leads g j r h away ts bytes v u at lawful (j.view h).seen lawful.holds_now
 
   pub are_records : AreRecordsOf at.tables u.state
   are_records = record {
@@ -53,9 +53,9 @@ module _ {S H : Type 0} (g : Ghosts S) (view : H → View) (size : H → Sizes) 
       (against : Option Compared)
       → against ≡ option_map compared_with (source_in (seen_in first) (adopted_from c))
       → part ≡ part_of u.state c (found_mids (seen_in first) (adopted_from c))
-      → ((q : List ℕ) → Has (adopted_from c) q → Tell first (size h) (view h).seen None q)
+      → ((q : List ℕ) → Has (adopted_from c) q → Tell first (j.size h) (j.view h).seen None q)
       → ((s : Records) → IsPartOf part c s → (q : List ℕ) → Has (needed_by s c) q
-      → Tell facts (size h) (view h).seen against q)
+      → Tell facts (j.size h) (j.view h).seen against q)
       → IsPartToDecide part (seen_in facts) c u.state × AreFacts facts u c
   gathered first facts c part against is read before tell =
       let of : IsPartOf part c u.state = record {
@@ -67,7 +67,7 @@ module _ {S H : Type 0} (g : Ghosts S) (view : H → View) (size : H → Sizes) 
         serves u.state part c (seen_in first) (seen_in facts) leads.sound.state read
             (takes_alike (seen_in facts) (seen_in first) c
             (λ p h. (now p (adopted_needed u.state c p h)).last_is ∙ sym (before p h).last_is)),
-        are_facts (settled at.tables) u (size h) away (view h).seen at.sizes leads facts first c
+        are_facts (settled at.tables) u (j.size h) away (j.view h).seen at.sizes leads facts first c
             against is
             before now,
       )

@@ -6,7 +6,7 @@ use Rattle.sqlite_trees.specs.declared.store.Store.{Ghosts}
 use Rattle.sqlite.specs.Tree.{Trees}
 use Rattle.sqlite.specs.Held.{Held}
 use Rattle.gm_metadata.specs.Images.{Image, Sizes}
-use Rattle.gm_shelf.specs.Disk.{View}
+use Rattle.gm_shelf.specs.declared.shelf.Shelf.{Ghosts as ShelfGhosts}
 use Rattle.gm_commands.specs.declared.command.Command.{Command}
 use Rattle.gm_state.specs.declared.intents.Intent.{Intent}
 use Rattle.gm_state.specs.declared.intents.Reply.{Reply}
@@ -78,32 +78,32 @@ step_present : (u w : World) (key : List ℕ) (c : Command) (r : Reply) → Step
     → present w ≡ present u
 step_present u w key c r step = λ i q. if step.there q i then step.sizes q i else None
 
-module _ {S H : Type 0} (g : Ghosts S) (view : H → View) (size : H → Sizes) (all : Sizes) where
+module _ {S H : Type 0} (g : Ghosts S) (j : ShelfGhosts H) (all : Sizes) where
   abbrev At : Now (Held S) H → Type 0
-  At n = Headline g view size all n.phase n.away n.accepted n.acknowledged
+  At n = Headline g j all n.phase n.away n.accepted n.acknowledged
 
   abbrev AtPhase : Now (Held S) H → Phase (Held S) H → Type 0
-  AtPhase m p = Headline g view size all p m.away m.accepted m.acknowledged
+  AtPhase m p = Headline g j all p m.away m.accepted m.acknowledged
 
   -- the store and the images of a stop lead on, if each such pair does
   led : (r s : Held S) (h k : H) (db : Trees) (l : H) (away : Image) (u w : World)
-      → LeavesOnly g view size r s h k away u w → IsStop g view size r s h k db l
-      → Recovers db (size l) away (view l).may_leave u w
+      → LeavesOnly g j r s h k away u w → IsStop g j r s h k db l
+      → Recovers db (j.size l) away (j.view l).may_leave u w
   led r s h k db l away u w only stop =
-      subst (λ (z : Sizes). Recovers db z away (view l).may_leave u w) (sym stop.0)
+      subst (λ (z : Sizes). Recovers db z away (j.view l).may_leave u w) (sym stop.0)
       (elim stop.2 [
-        | inl within ↦ fewer db (size h) away ((view k).left_since (view h).moment)
-            (view l).may_leave u w (only.within db within.0) within.1
-        | inr end ↦ fewer db (size h) away (view k).may_leave (view l).may_leave u w
+        | inl within ↦ fewer db (j.size h) away ((j.view k).left_since (j.view h).moment)
+            (j.view l).may_leave u w (only.within db within.0) within.1
+        | inr end ↦ fewer db (j.size h) away (j.view k).may_leave (j.view l).may_leave u w
             (only.end db end.0) end.1
       ])
 
   -- what a stop within a call leaves, if each pair leads to w
   pub stopped : (r s : Held S) (h k : H) (db : Trees) (l : H) (away : Image) (u w : World)
       (acc ack : List Entry) → Reached all acc w → IsButMoved u w ⊎ ArePending all acc u w
-      → present w ≡ size h → Within ack acc → LeavesOnly g view size r s h k away u w
-      → IsStop g view size r s h k db l
-      → Stopped g view size all db l away acc ack
+      → present w ≡ j.size h → Within ack acc → LeavesOnly g j r s h k away u w
+      → IsStop g j r s h k db l
+      → Stopped g j all db l away acc ack
   stopped r s h k db l away u w acc ack reached last is told only stop = record {
     world = w;
     before = u;
@@ -125,12 +125,12 @@ module _ {S H : Type 0} (g : Ghosts S) (view : H → View) (size : H → Sizes) 
     pub world : World
     pub reached : Reached all acc world
     pub last : IsButMoved before world ⊎ ArePending all acc before world
-    pub at : IsCarriedOut g view size r h away intents bytes before world
+    pub at : IsCarriedOut g j r h away intents bytes before world
     pub waits : WaitsFor waiting intents bytes
     pub told : Within ack acc
 
   abbrev pub at_rest : (r : Held S) (h : H) (away : Image) (acc ack : List Entry)
-      → AtRest g view size all r h away acc ack → IsReached waiting.Nothing r h away acc ack
+      → AtRest g j all r h away acc ack → IsReached waiting.Nothing r h away acc ack
   at_rest r h away acc ack o = record {
     intents = [];
     bytes = [];
@@ -138,7 +138,7 @@ module _ {S H : Type 0} (g : Ghosts S) (view : H → View) (size : H → Sizes) 
     world = o.world;
     reached = o.reached;
     last = inl (stays o.world);
-    at = done_at_rest g view size r h away o.world o.at;
+    at = done_at_rest g j r h away o.world o.at;
     waits = (refl, refl);
     told = o.told;
   }
@@ -147,7 +147,7 @@ module _ {S H : Type 0} (g : Ghosts S) (view : H → View) (size : H → Sizes) 
   abbrev pub reached_done : (r : Held S) (h : H) (away : Image) (acc ack : List Entry)
       (intents : List Intent) (bytes : List (List ℕ)) (before world : World)
       → Reached all acc world → IsButMoved before world ⊎ ArePending all acc before world
-      → IsCarriedOut g view size r h away intents bytes before world → Within ack acc
+      → IsCarriedOut g j r h away intents bytes before world → Within ack acc
       → IsReached waiting.Done r h away acc ack
   reached_done r h away acc ack intents bytes before world reached last at told = record {
     intents = intents;
@@ -167,42 +167,41 @@ module _ {S H : Type 0} (g : Ghosts S) (view : H → View) (size : H → Sizes) 
   reached_by m r h waiting.Nothing is was =
       at_rest r h m.away m.accepted m.acknowledged (subst (AtPhase m) is was)
   reached_by m r h waiting.Done (work, is) was =
-      let it : (o : OnTheWay g view size all r h m.away work m.accepted m.acknowledged)
-      × IsShelfOf (view h) o.world (size h) = subst (AtPhase m) is was in
+      let it : (o : OnTheWay g j all r h m.away work m.accepted m.acknowledged)
+      × IsShelfOf (j.view h) o.world (j.size h) = subst (AtPhase m) is was in
       let o = it.0 in
       reached_done r h m.away m.accepted m.acknowledged work.intents.items work.bytes.items o.before
       o.world o.reached (inr (last_pending all m.accepted o.before o.world o.last))
-      (carried_out g view size r h m.away work.intents.items work.bytes.items o.before o.world
+      (carried_out g j r h m.away work.intents.items work.bytes.items o.before o.world
       o.at.at it.1) o.told
 
   -- nothing was done: the bench is as far as before
   undone : (m : Now (Held S) H) (r s : Held S) (h k : H) (waiting : Waiting)
       (over : IsDoneOver m.phase r h waiting) (was : At m)
       → (let it = reached_by m r h waiting over was in
-      IsCarriedOut g view size s k m.away it.intents it.bytes it.before it.world)
+      IsCarriedOut g j s k m.away it.intents it.bytes it.before it.world)
       → AtPhase m (with_media m.phase s k)
   undone m r s h k waiting.Nothing is was after =
-      let o : AtRest g view size all r h m.away m.accepted m.acknowledged =
+      let o : AtRest g j all r h m.away m.accepted m.acknowledged =
       subst (AtPhase m) is was in
-      let rest : AtRest g view size all s k m.away m.accepted m.acknowledged = record {
+      let rest : AtRest g j all s k m.away m.accepted m.acknowledged = record {
         world = o.world;
         reached = o.reached;
-        at = at_of g view size s k m.away [] [] o.world o.world after;
+        at = at_of g j s k m.away [] [] o.world o.world after;
         told = o.told;
       } in
       subst (λ (p : Phase (Held S) H). AtPhase m (with_media p s k)) (sym is) rest
   undone m r s h k waiting.Done (work, is) was after =
-      let it : (o : OnTheWay g view size all r h m.away work m.accepted m.acknowledged)
-      × IsShelfOf (view h) o.world (size h) = subst (AtPhase m) is was in
+      let it : (o : OnTheWay g j all r h m.away work m.accepted m.acknowledged)
+      × IsShelfOf (j.view h) o.world (j.size h) = subst (AtPhase m) is was in
       let o = it.0 in
-      let way : OnTheWay g view size all s k m.away work m.accepted m.acknowledged = record {
+      let way : OnTheWay g j all s k m.away work m.accepted m.acknowledged = record {
         world = o.world;
         before = o.before;
         reached = o.reached;
         last = o.last;
         at = record {
-          at = at_of g view size s k m.away work.intents.items work.bytes.items o.before o.world
-              after;
+          at = at_of g j s k m.away work.intents.items work.bytes.items o.before o.world after;
           cover = o.at.cover;
         };
         told = o.told;
@@ -212,7 +211,7 @@ module _ {S H : Type 0} (g : Ghosts S) (view : H → View) (size : H → Sizes) 
   answered : (call : Call) (a : Accepted) (r s : Held S) (h k : H) (waiting : Waiting)
       (m n : Now (Held S) H) → IsDoneOver m.phase r h waiting → At m
       → n ≡ after_answer m call a s k
-      → AcceptAnswers g view size waiting r s h k call.key call.command a → At n
+      → AcceptAnswers g j waiting r s h k call.key call.command a → At n
   answered call (Done i reply work) r s h k waiting m n over was is clause =
       let o = reached_by m r h waiting over was in
       let it = clause m.away o.intents o.bytes o.before o.world o.at o.waits in
@@ -237,19 +236,19 @@ module _ {S H : Type 0} (g : Ghosts S) (view : H → View) (size : H → Sizes) 
   -- a commit that was stopped stands, or not
   left_in : (call : Call) (waiting : Waiting) (r : Held S) (h : H) (db : Trees) (l : H)
       (away : Image) (acc ack after : List Entry) (was : IsReached waiting r h away acc ack)
-      → IsLeftIn db (Handed_in call) acc after → size l ≡ size h → (view l).may_leave (view l).seen
-      → OrStep was.before was.world call.key call.command
-      (λ x w. Recovers db (size h) away (view l).may_leave x w)
-      → Stopped g view size all db l away after ack
+      → IsLeftIn db (Handed_in call) acc after → j.size l ≡ j.size h
+      → (j.view l).may_leave (j.view l).seen → OrStep was.before was.world call.key call.command
+      (λ x w. Recovers db (j.size h) away (j.view l).may_leave x w)
+      → Stopped g j all db l away after ack
   left_in call waiting r h db l away acc ack after was left same there either =
       let u : World = was.world in
       let many : length u.answered ≡ length acc = answered_many all acc u was.reached in
-      let resized : (x w : World) → Recovers db (size h) away (view l).may_leave x w
-      → Recovers db (size l) away (view l).may_leave x w =
-      λ x w. subst (λ (z : Sizes). Recovers db z away (view l).may_leave x w) (sym same) in
+      let resized : (x w : World) → Recovers db (j.size h) away (j.view l).may_leave x w
+      → Recovers db (j.size l) away (j.view l).may_leave x w =
+      λ x w. subst (λ (z : Sizes). Recovers db z away (j.view l).may_leave x w) (sym same) in
       elim left [
         | inl before ↦
-            subst (λ (list : List Entry). Stopped g view size all db l away list ack) (sym before.0)
+            subst (λ (list : List Entry). Stopped g j all db l away list ack) (sym before.0)
             (elim either [
               | inl r ↦ record {
                 world = u;
@@ -261,15 +260,15 @@ module _ {S H : Type 0} (g : Ghosts S) (view : H → View) (size : H → Sizes) 
                 told = was.told;
               }
               | inr r ↦
-                  let n = counts db (size h) away (view l).may_leave (view l).seen u r.0
+                  let n = counts db (j.size h) away (j.view l).may_leave (j.view l).seen u r.0
                   (length acc) there r.3 before.1 in
                   let m : length r.0.answered ≡ suc (length u.answered) = ap length r.2.answered in
                   absurd (omega (arith, n, m, many))
             ])
         | inr stands ↦
-            subst (λ (list : List Entry). Stopped g view size all db l away list ack) (sym stands.0)
+            subst (λ (list : List Entry). Stopped g j all db l away list ack) (sym stands.0)
             (elim either [
-              | inl r ↦ (let n = counts db (size h) away (view l).may_leave (view l).seen
+              | inl r ↦ (let n = counts db (j.size h) away (j.view l).may_leave (j.view l).seen
                   was.before u (length acc + 1) there r stands.1 in
                   absurd (omega (arith, n, many)))
               | inr r ↦ record {
@@ -289,22 +288,23 @@ module _ {S H : Type 0} (g : Ghosts S) (view : H → View) (size : H → Sizes) 
       H)
       (away : Image) (acc ack after : List Entry) (was : IsReached waiting r h away acc ack)
       → IsLeftIn db (Handed_in call) acc after
-      → LeavesStep g view size r s h k away was.before was.world call.key call.command
-      → IsStop g view size r s h k db l → Stopped g view size all db l away after ack
+      → LeavesStep g j r s h k away was.before was.world call.key call.command
+      → IsStop g j r s h k db l → Stopped g j all db l away after ack
   accept_stopped call waiting r s h k db l away acc ack after was left clause stop =
       let v : World = was.before in
       let u : World = was.world in
       left_in call waiting r h db l away acc ack after was left stop.0 stop.1 (elim stop.2 [
         | inl within
-            ↦ inl (fewer db (size h) away ((view k).left_since (view h).moment)
-            (view l).may_leave v u (clause.within db within.0) within.1)
+            ↦ inl (fewer db (j.size h) away ((j.view k).left_since (j.view h).moment)
+            (j.view l).may_leave v u (clause.within db within.0) within.1)
         | inr end ↦ elim (clause.end db end.0) [
-          | inl r ↦ inl (fewer db (size h) away (view k).may_leave (view l).may_leave v u r end.1)
+          | inl r ↦ inl
+              (fewer db (j.size h) away (j.view k).may_leave (j.view l).may_leave v u r end.1)
           | inr r ↦ inr (
             r.0,
             r.1,
             r.2,
-            fewer db (size h) away (view k).may_leave (view l).may_leave u r.0 r.3 end.1,
+            fewer db (j.size h) away (j.view k).may_leave (j.view l).may_leave u r.0 r.3 end.1,
           )
         ]
       ])
@@ -314,11 +314,12 @@ module _ {S H : Type 0} (g : Ghosts S) (view : H → View) (size : H → Sizes) 
   pub settling_stopped : (call : Call) (waiting : Waiting) (r mid s : Held S) (h k end : H)
       (db : Trees) (l : H) (away : Image) (acc ack after : List Entry)
       (was : IsReached waiting r h away acc ack) → IsLeftIn db (Handed_in call) acc after
-      → size k ≡ size h → LeavesOnly g view size mid s k end away was.before was.world
-      → IsStop g view size mid s k end db l → Stopped g view size all db l away after ack
+      → j.size k ≡ j.size h → LeavesOnly g j mid s k end away was.before was.world
+      → IsStop g j mid s k end db l → Stopped g j all db l away after ack
   settling_stopped call waiting r mid s h k end db l away acc ack after was left sizes only stop =
-      let same : size l ≡ size h = stop.0 ∙ sizes in
-      let led_on = subst (λ (z : Sizes). Recovers db z away (view l).may_leave was.before was.world)
+      let same : j.size l ≡ j.size h = stop.0 ∙ sizes in
+      let led_on = subst
+      (λ (z : Sizes). Recovers db z away (j.view l).may_leave was.before was.world)
       same (led mid s k end db l away was.before was.world only stop) in
       left_in call waiting r h db l away acc ack after was left same stop.1 (inl led_on)
 
@@ -326,23 +327,23 @@ module _ {S H : Type 0} (g : Ghosts S) (view : H → View) (size : H → Sizes) 
   pub run_stopped : (call : Call) (waiting : Waiting) (r s : Held S) (h k : H) (db : Trees) (l : H)
       (away : Image) (acc ack after : List Entry) (was : IsReached waiting r h away acc ack)
       → IsLeftIn db (Handed_in call) acc after
-      → (it : LeavesRun g view size r s h k away was.before was.world call.key call.command)
-      → IsRunStop g view size r s h k away was.before was.world call it db l
-      → Stopped g view size all db l away after ack
+      → (it : LeavesRun g j r s h k away was.before was.world call.key call.command)
+      → IsRunStop g j r s h k away was.before was.world call it db l
+      → Stopped g j all db l away after ack
   run_stopped call waiting r s h k db l away acc ack after was left it (inl stop) =
       accept_stopped call waiting r it.registry h it.shelf db l away acc ack after was left
       it.accepting stop
   run_stopped call waiting r s h k db l away acc ack after was left it
       (inr (w, reply, step, leaves, stop)) =
-      let same : size l ≡ size h = stop.0 ∙ it.sizes in
-      let led_on = subst (λ (z : Sizes). Recovers db z away (view l).may_leave was.world w) same
+      let same : j.size l ≡ j.size h = stop.0 ∙ it.sizes in
+      let led_on = subst (λ (z : Sizes). Recovers db z away (j.view l).may_leave was.world w) same
       (led it.registry s it.shelf k db l away was.world w leaves stop) in
       left_in call waiting r h db l away acc ack after was left same stop.1
       (inr (w, reply, step, led_on))
 
   run_answered : (call : Call) (a : Answer) (r s : Held S) (h k : H) (m n : Now (Held S) H)
-      → AtRest g view size all r h m.away m.accepted m.acknowledged → n ≡ after_run m call a s k
-      → RunAnswers g view size r s h k call.key call.command a → At n
+      → AtRest g j all r h m.away m.accepted m.acknowledged → n ≡ after_run m call a s k
+      → RunAnswers g j r s h k call.key call.command a → At n
   run_answered call (run.Done i reply) r s h k m n was is clause =
       let it = clause m.away was.world was.at in
       let step : Step was.world call.key call.command it.world reply = it.calls.3 in
@@ -374,15 +375,15 @@ module _ {S H : Type 0} (g : Ghosts S) (view : H → View) (size : H → Sizes) 
   -- ---- a look
 
   abbrev looked_on : (r s : Held S) (h k : H) (away : Image) (work : Work) (acc ack : List Entry)
-      → LookDoes g view size r s h k → OnTheWay g view size all r h away work acc ack
-      → OnTheWay g view size all s k away work acc ack
+      → LookDoes g j r s h k → OnTheWay g j all r h away work acc ack
+      → OnTheWay g j all s k away work acc ack
   looked_on r s h k away work acc ack does o = record {
     world = o.world;
     before = o.before;
     reached = o.reached;
     last = o.last;
     at = record {
-      at = looked_at g view size r s h k away work.intents.items work.bytes.items o.before o.world
+      at = looked_at g j r s h k away work.intents.items work.bytes.items o.before o.world
           does o.at.at;
       cover = o.at.cover;
     };
@@ -390,49 +391,49 @@ module _ {S H : Type 0} (g : Ghosts S) (view : H → View) (size : H → Sizes) 
   }
 
   looked : (r s : Held S) (h k : H) (m : Now (Held S) H) → IsOpenOver m.phase r h
-      → LookDoes g view size r s h k → At m → AtPhase m (with_media m.phase s k)
+      → LookDoes g j r s h k → At m → AtPhase m (with_media m.phase s k)
   looked r s h k m (inl phase) does was =
-      let o : AtRest g view size all r h m.away m.accepted m.acknowledged =
+      let o : AtRest g j all r h m.away m.accepted m.acknowledged =
       subst (AtPhase m) phase was in
-      let after : AtRest g view size all s k m.away m.accepted m.acknowledged =
+      let after : AtRest g j all s k m.away m.accepted m.acknowledged =
       record {
         world = o.world;
         reached = o.reached;
-        at = looked_at g view size r s h k m.away [] [] o.world o.world does o.at;
+        at = looked_at g j r s h k m.away [] [] o.world o.world does o.at;
         told = o.told;
       } in
       subst (λ (p : Phase (Held S) H). AtPhase m (with_media p s k)) (sym phase) after
   looked r s h k m (inr (work, inl phase)) does was =
-      let o : OnTheWay g view size all r h m.away work m.accepted m.acknowledged =
+      let o : OnTheWay g j all r h m.away work m.accepted m.acknowledged =
       subst (AtPhase m) phase was in
       subst (λ (p : Phase (Held S) H). AtPhase m (with_media p s k)) (sym phase)
       (looked_on r s h k m.away work m.accepted m.acknowledged does o)
   looked r s h k m (inr (work, inr phase)) does was =
-      let o : (o : OnTheWay g view size all r h m.away work m.accepted m.acknowledged)
-      × IsShelfOf (view h) o.world (size h) = subst (AtPhase m) phase was in
-      let shelf : IsShelfOf (view k) o.0.world (size k) =
-      subst (λ (z : Sizes). IsShelfOf (view k) o.0.world z) (sym does.sizes)
+      let o : (o : OnTheWay g j all r h m.away work m.accepted m.acknowledged)
+      × IsShelfOf (j.view h) o.world (j.size h) = subst (AtPhase m) phase was in
+      let shelf : IsShelfOf (j.view k) o.0.world (j.size k) =
+      subst (λ (z : Sizes). IsShelfOf (j.view k) o.0.world z) (sym does.sizes)
       (λ x l. o.1 x (does.images x l)) in
       subst (λ (p : Phase (Held S) H). AtPhase m (with_media p s k)) (sym phase)
       (looked_on r s h k m.away work m.accepted m.acknowledged does o.0, shelf)
 
   look_stopped : (r s : Held S) (h k : H) (db : Trees) (l : H) (m : Now (Held S) H)
-      → IsOpenOver m.phase r h → LookLeaves g view size r s h k → IsStop g view size r s h k db l
-      → At m → Stopped g view size all db l m.away m.accepted m.acknowledged
+      → IsOpenOver m.phase r h → LookLeaves g j r s h k → IsStop g j r s h k db l
+      → At m → Stopped g j all db l m.away m.accepted m.acknowledged
   look_stopped r s h k db l m (inl phase) leaves stop was =
-      let o : AtRest g view size all r h m.away m.accepted m.acknowledged =
+      let o : AtRest g j all r h m.away m.accepted m.acknowledged =
       subst (AtPhase m) phase was in
       stopped r s h k db l m.away o.world o.world m.accepted m.acknowledged o.reached
       (inl (stays o.world)) o.at.sizes o.told (leaves m.away [] [] o.world o.world o.at) stop
   look_stopped r s h k db l m (inr (work, inl phase)) leaves stop was =
-      let o : OnTheWay g view size all r h m.away work m.accepted m.acknowledged =
+      let o : OnTheWay g j all r h m.away work m.accepted m.acknowledged =
       subst (AtPhase m) phase was in
       stopped r s h k db l m.away o.before o.world m.accepted m.acknowledged o.reached
       (inr (last_pending all m.accepted o.before o.world o.last)) o.at.at.sizes o.told
       (leaves m.away work.intents.items work.bytes.items o.before o.world o.at.at) stop
   look_stopped r s h k db l m (inr (work, inr phase)) leaves stop was =
-      let it : (o : OnTheWay g view size all r h m.away work m.accepted m.acknowledged)
-      × IsShelfOf (view h) o.world (size h) = subst (AtPhase m) phase was in
+      let it : (o : OnTheWay g j all r h m.away work m.accepted m.acknowledged)
+      × IsShelfOf (j.view h) o.world (j.size h) = subst (AtPhase m) phase was in
       let o = it.0 in
       stopped r s h k db l m.away o.before o.world m.accepted m.acknowledged o.reached
       (inr (last_pending all m.accepted o.before o.world o.last)) o.at.at.sizes o.told
@@ -441,36 +442,37 @@ module _ {S H : Type 0} (g : Ghosts S) (view : H → View) (size : H → Sizes) 
   -- the commit of an opening without a provider was stopped: it stands, or not
   without_stopped : (call : Call) (p : List ℕ) (gone : List Intent) (start o s : Held S) (h : H)
       (db : Trees) (l : H) (away : Image) (acc ack after : List Entry)
-      (was : Stopped g view size all (stored g start) h away acc ack)
+      (was : Stopped g j all (stored g start) h away acc ack)
       → IsLeftIn db (Without call p gone) acc after
-      → LeavesCommit g view size o s h away was.before was.world call p gone
-      → IsStop g view size o s h h db l → Stopped g view size all db l away after ack
+      → LeavesCommit g j o s h away was.before was.world call p gone
+      → IsStop g j o s h h db l → Stopped g j all db l away after ack
   without_stopped call p gone start o s h db l away acc ack after was left clause stop =
       let u : World = was.before in
       let w : World = was.world in
       let many : length w.answered ≡ length acc = answered_many all acc w was.reached in
-      let either : Recovers db (size h) away (view l).may_leave u w
-      ⊎ ((v : World) × IsStepWithout w call p gone v × (present v ≡ size h)
-      × Recovers db (size h) away (view l).may_leave u v) = elim stop.2 [
+      let either : Recovers db (j.size h) away (j.view l).may_leave u w
+      ⊎ ((v : World) × IsStepWithout w call p gone v × (present v ≡ j.size h)
+      × Recovers db (j.size h) away (j.view l).may_leave u v) = elim stop.2 [
         | inl within
-            ↦ inl (fewer db (size h) away ((view h).left_since (view h).moment)
-            (view l).may_leave u w (clause.within db within.0) within.1)
+            ↦ inl (fewer db (j.size h) away ((j.view h).left_since (j.view h).moment)
+            (j.view l).may_leave u w (clause.within db within.0) within.1)
         | inr end ↦ elim (clause.end db end.0) [
-          | inl r ↦ inl (fewer db (size h) away (view h).may_leave (view l).may_leave u w r end.1)
+          | inl r ↦ inl
+              (fewer db (j.size h) away (j.view h).may_leave (j.view l).may_leave u w r end.1)
           | inr r ↦ inr (
             r.0,
             r.1,
             r.2,
-            fewer db (size h) away (view h).may_leave (view l).may_leave u r.0 r.3 end.1,
+            fewer db (j.size h) away (j.view h).may_leave (j.view l).may_leave u r.0 r.3 end.1,
           )
         ]
       ] in
-      let resized : (v : World) → Recovers db (size h) away (view l).may_leave u v
-      → Recovers db (size l) away (view l).may_leave u v =
-      λ v. subst (λ (z : Sizes). Recovers db z away (view l).may_leave u v) (sym stop.0) in
+      let resized : (v : World) → Recovers db (j.size h) away (j.view l).may_leave u v
+      → Recovers db (j.size l) away (j.view l).may_leave u v =
+      λ v. subst (λ (z : Sizes). Recovers db z away (j.view l).may_leave u v) (sym stop.0) in
       elim left [
         | inl before ↦
-            subst (λ (list : List Entry). Stopped g view size all db l away list ack) (sym before.0)
+            subst (λ (list : List Entry). Stopped g j all db l away list ack) (sym before.0)
             (elim either [
               | inl r ↦ record {
                 world = w;
@@ -482,16 +484,16 @@ module _ {S H : Type 0} (g : Ghosts S) (view : H → View) (size : H → Sizes) 
                 told = was.told;
               }
               | inr r ↦
-                  let n = counts db (size h) away (view l).may_leave (view l).seen u r.0
+                  let n = counts db (j.size h) away (j.view l).may_leave (j.view l).seen u r.0
                   (length acc) stop.1 r.3 before.1 in
                   let m : length r.0.answered ≡ suc (length w.answered) =
                   ap length (r.1.answered ∙ r.1.step.answered) in
                   absurd (omega (arith, n, m, many))
             ])
         | inr stands ↦
-            subst (λ (list : List Entry). Stopped g view size all db l away list ack) (sym stands.0)
+            subst (λ (list : List Entry). Stopped g j all db l away list ack) (sym stands.0)
             (elim either [
-              | inl r ↦ (let n = counts db (size h) away (view l).may_leave (view l).seen u w
+              | inl r ↦ (let n = counts db (j.size h) away (j.view l).may_leave (j.view l).seen u w
                   (length acc + 1) stop.1 r stands.1 in absurd (omega (arith, n, many)))
               | inr r ↦ record {
                 world = r.0;
@@ -507,22 +509,22 @@ module _ {S H : Type 0} (g : Ghosts S) (view : H → View) (size : H → Sizes) 
 
   -- with the providers of the later shelf it leads on as well
   moved : (db : Trees) (h later : H) (away beyond : Image) (acc ack : List Entry)
-      → IsMove g view size all h away later beyond → Stopped g view size all db h away acc ack
-      → Stopped g view size all db later beyond acc ack
+      → IsMove g j all h away later beyond → Stopped g j all db h away acc ack
+      → Stopped g j all db later beyond acc ack
   moved db h later away beyond acc ack move was =
       let w : World = was.world in
       let u : World = was.before in
-      let there : List ℕ → Bool = there_of (size later) in
+      let there : List ℕ → Bool = there_of (j.size later) in
       let r = was.recovers in
-      let leads : AllLead r.tables r.intents r.bytes (size later) beyond (view later).may_leave u
-      (with_there w there) = λ y left.
+      let leads : AllLead r.tables r.intents r.bytes (j.size later) beyond (j.view later).may_leave
+      u (with_there w there) = λ y left.
       let from = move.images y left in
-      let same : whole (size h) away from.0 ≡ whole (size later) beyond y =
-      λ i p j. sym (from.2 p j) i in
+      let same : whole (j.size h) away from.0 ≡ whole (j.size later) beyond y =
+      λ i p n. sym (from.2 p n) i in
       let lead = r.leads from.0 from.1 in (
-        moved_leads r.tables r.intents r.bytes (whole (size later) beyond y) w there
+        moved_leads r.tables r.intents r.bytes (whole (j.size later) beyond y) w there
             (subst (λ (x : Image). Leads r.tables r.intents r.bytes x w) same lead.0),
-        moved_keeps r.intents (whole (size later) beyond y) u w there
+        moved_keeps r.intents (whole (j.size later) beyond y) u w there
             (subst (λ (x : Image). KeepsClaims r.intents x u w) same lead.1),
       ) in
       record {
@@ -534,7 +536,7 @@ module _ {S H : Type 0} (g : Ghosts S) (view : H → View) (size : H → Sizes) 
           | inr l
               ↦ inr (moved_last all acc u w there l)
         ];
-        sizes = moved_present all w (size later) (reached_sizes all acc w was.reached) move.sizes;
+        sizes = moved_present all w (j.size later) (reached_sizes all acc w was.reached) move.sizes;
         recovers = record {
           tables = r.tables;
           intents = r.intents;
@@ -546,7 +548,7 @@ module _ {S H : Type 0} (g : Ghosts S) (view : H → View) (size : H → Sizes) 
       }
 
   next : (m : Now (Held S) H) (e : Event (Held S) H) (n : Now (Held S) H) → At m
-      → Happens g view size all m e n → At n
+      → Happens g j all m e n → At n
   next m (Accept_returned call a s k) n was (r, h, waiting, over, is, clause) =
       answered call a r s h k waiting m n over was is clause
   next m (Accept_stopped call s k db l) n was (r, h, waiting, over, after, is, left, clause, stop) =
@@ -554,7 +556,7 @@ module _ {S H : Type 0} (g : Ghosts S) (view : H → View) (size : H → Sizes) 
       subst At (sym is) (accept_stopped call waiting r s h k db l m.away m.accepted m.acknowledged
       after o left (clause m.away o.intents o.bytes o.before o.world o.at o.waits) stop)
   next m (Apply_returned k) n was (r, h, work, phase, is, clause) =
-      let o : OnTheWay g view size all r h m.away work m.accepted m.acknowledged =
+      let o : OnTheWay g j all r h m.away work m.accepted m.acknowledged =
       subst (AtPhase m) phase was in
       let it = clause m.away o.before o.world o.at in
       subst At (sym is) (
@@ -569,14 +571,14 @@ module _ {S H : Type 0} (g : Ghosts S) (view : H → View) (size : H → Sizes) 
         it.1,
       )
   next m (Apply_stopped k db l) n was (r, h, work, phase, is, clause, stop) =
-      let o : OnTheWay g view size all r h m.away work m.accepted m.acknowledged =
+      let o : OnTheWay g j all r h m.away work m.accepted m.acknowledged =
       subst (AtPhase m) phase was in
       subst At (sym is) (stopped r r h k db l m.away o.before o.world m.accepted m.acknowledged
       o.reached (inr (last_pending all m.accepted o.before o.world o.last)) o.at.at.sizes o.told
       (clause m.away o.before o.world o.at) stop)
   next m (Settle_returned s) n was (r, h, work, phase, is, clause) =
-      let o : (o : OnTheWay g view size all r h m.away work m.accepted m.acknowledged)
-      × IsShelfOf (view h) o.world (size h) = subst (AtPhase m) phase was in
+      let o : (o : OnTheWay g j all r h m.away work m.accepted m.acknowledged)
+      × IsShelfOf (j.view h) o.world (j.size h) = subst (AtPhase m) phase was in
       subst At (sym is) (record {
         world = o.0.world;
         reached = o.0.reached;
@@ -584,15 +586,15 @@ module _ {S H : Type 0} (g : Ghosts S) (view : H → View) (size : H → Sizes) 
         told = o.0.told;
       })
   next m (Settle_stopped s db l) n was (r, h, work, phase, is, clause, stop) =
-      let o : (o : OnTheWay g view size all r h m.away work m.accepted m.acknowledged)
-      × IsShelfOf (view h) o.world (size h) = subst (AtPhase m) phase was in
+      let o : (o : OnTheWay g j all r h m.away work m.accepted m.acknowledged)
+      × IsShelfOf (j.view h) o.world (j.size h) = subst (AtPhase m) phase was in
       subst At (sym is) (stopped r s h h db l m.away o.0.before o.0.world m.accepted m.acknowledged
       o.0.reached (inr (last_pending all m.accepted o.0.before o.0.world o.0.last))
       o.0.at.at.sizes o.0.told (clause m.away o.0.before o.0.world o.0.at o.1) stop)
   next m (Run_returned call a s k) n was (r, h, phase, is, clause) =
       run_answered call a r s h k m n (subst (AtPhase m) phase was) is clause
   next m (Run_stopped call s k db l) n was (r, h, phase, after, is, left, leaves, stop) =
-      let rest : AtRest g view size all r h m.away m.accepted m.acknowledged =
+      let rest : AtRest g j all r h m.away m.accepted m.acknowledged =
       subst (AtPhase m) phase was in
       subst At (sym is) (run_stopped call waiting.Nothing r s h k db l m.away m.accepted
       m.acknowledged after (at_rest r h m.away m.accepted m.acknowledged rest) left
@@ -602,11 +604,11 @@ module _ {S H : Type 0} (g : Ghosts S) (view : H → View) (size : H → Sizes) 
   next m (Look_stopped s k db l) n was (r, h, over, is, leaves, stop) =
       subst At (sym is) (look_stopped r s h k db l m over leaves stop was)
   next m (Moved beyond later) n was (db, h, phase, is, move) =
-      let o : Stopped g view size all db h m.away m.accepted m.acknowledged =
+      let o : Stopped g j all db h m.away m.accepted m.acknowledged =
       subst (AtPhase m) phase was in
       subst At (sym is) (moved db h later m.away beyond m.accepted m.acknowledged move o)
   next m (Open_returned start s k) n was (h, phase, is, clause) =
-      let o : Stopped g view size all (stored g start) h m.away m.accepted m.acknowledged =
+      let o : Stopped g j all (stored g start) h m.away m.accepted m.acknowledged =
       subst (AtPhase m) phase was in
       subst At (sym is) (record {
         world = o.world;
@@ -615,9 +617,9 @@ module _ {S H : Type 0} (g : Ghosts S) (view : H → View) (size : H → Sizes) 
         told = o.told;
       })
   next m (Open_stopped start s k db l) n was (h, phase, is, clause, stop) =
-      let o : Stopped g view size all (stored g start) h m.away m.accepted m.acknowledged =
+      let o : Stopped g j all (stored g start) h m.away m.accepted m.acknowledged =
       subst (AtPhase m) phase was in
-      let left : IsLeft g view size start h m.away o.before o.world =
+      let left : IsLeft g j start h m.away o.before o.world =
       record { sizes = o.sizes; recovers = o.recovers } in
       subst At (sym is) (elim stop [
         | inl opening ↦ stopped start clause.registry h h db l m.away o.before o.world m.accepted
@@ -628,7 +630,7 @@ module _ {S H : Type 0} (g : Ghosts S) (view : H → View) (size : H → Sizes) 
             (clause.carrying m.away o.before o.world left) carrying
       ])
   next m (Without_returned call p gone start s k) n was (h, phase, is, clause) =
-      let o : Stopped g view size all (stored g start) h m.away m.accepted m.acknowledged =
+      let o : Stopped g j all (stored g start) h m.away m.accepted m.acknowledged =
       subst (AtPhase m) phase was in
       let it = clause m.away o.before o.world (record { sizes = o.sizes; recovers = o.recovers }) in
       subst At (sym is) (record {
@@ -646,7 +648,7 @@ module _ {S H : Type 0} (g : Ghosts S) (view : H → View) (size : H → Sizes) 
     clause,
     stop,
   ) =
-      let o : Stopped g view size all (stored g start) h m.away m.accepted m.acknowledged =
+      let o : Stopped g j all (stored g start) h m.away m.accepted m.acknowledged =
       subst (AtPhase m) phase was in
       subst At (sym is) (without_stopped call p gone start opened s h db l m.away m.accepted
       m.acknowledged after o left (clause m.away o.before o.world (record {
@@ -654,7 +656,7 @@ module _ {S H : Type 0} (g : Ghosts S) (view : H → View) (size : H → Sizes) 
         recovers = o.recovers;
       })).1 stop)
   next m (Without_carrying call p gone start mid s k db l) n was (h, phase, is, clause, stop) =
-      let o : Stopped g view size all (stored g start) h m.away m.accepted m.acknowledged =
+      let o : Stopped g j all (stored g start) h m.away m.accepted m.acknowledged =
       subst (AtPhase m) phase was in
       let it = clause m.away o.before o.world (record { sizes = o.sizes; recovers = o.recovers }) in
       subst At (sym is) (stopped mid s h k db l m.away o.before it.1
@@ -664,15 +666,15 @@ module _ {S H : Type 0} (g : Ghosts S) (view : H → View) (size : H → Sizes) 
         it.2,
       ) (inr (o.world, o.reached, it.2, o.last)) it.3 (skips o.told) it.4 stop)
 
-  started : (db : Trees) (h : H) (away : Image) (w : World) → IsStart g view size all db h away w
-      → AllLead no_tables [] [] (size h) away (view h).may_leave w w
+  started : (db : Trees) (h : H) (away : Image) (w : World) → IsStart g j all db h away w
+      → AllLead no_tables [] [] (j.size h) away (j.view h).may_leave w w
   started db h away w s x l = (
-    rest_leads no_tables (whole (size h) away x) w (new_sound all w s.new)
+    rest_leads no_tables (whole (j.size h) away x) w (new_sound all w s.new)
         (new_records all w s.new) refl refl (s.shelf x l),
-    rest_claims (whole (size h) away x) w (new_sound all w s.new) (s.shelf x l),
+    rest_claims (whole (j.size h) away x) w (new_sound all w s.new) (s.shelf x l),
   )
 
-  pub law : (events : List (Event (Held S) H)) (n : Now (Held S) H) → Runs g view size all events n
+  pub law : (events : List (Event (Held S) H)) (n : Now (Held S) H) → Runs g j all events n
       → At n
   law [] n (db, h, away, w, s, is) =
       subst At (sym is) (record {

@@ -5,7 +5,7 @@ use Rattle.sqlite_trees.specs.declared.store.Store.{Ghosts}
 use Rattle.sqlite.specs.Held.{Held}
 use Rattle.gm_lists.specs.Ordered.{Has}
 use Rattle.gm_metadata.specs.Images.{Image, Sizes}
-use Rattle.gm_shelf.specs.Disk.{View, IsLawful, IsQuiet}
+use Rattle.gm_shelf.specs.Disk.{IsLawful, IsQuiet}
 use Rattle.gm_shelf.specs.Keeping.{Looks, ReadsOnly}
 use Rattle.gm_shelf.specs.declared.fault.ShelfFault.{ShelfFault}
 use Rattle.gm_shelf.specs.declared.fault.ShelfFault.TheVariants as shelf
@@ -30,36 +30,36 @@ use Rattle.gm_bench.specs.declared.fault.BenchFault.TheVariants.{Closed, Disk, M
 use Rattle.gm_bench.proofs.DecidesOnly.{reads_none}
 use Rattle.gm_bench.proofs.RegistryLeaves.{read_only}
 
-module _ {S H : Type 0} (g : Ghosts S) (view : H → View) (size : H → Sizes) (r s : Held S) (h k : H)
-    (quiet : IsQuiet (view h) (view k)) where
+module _ {S H : Type 0} (g : Ghosts S) (j : ShelfGhosts H) (r s : Held S) (h k : H)
+    (quiet : IsQuiet (j.view h) (j.view k)) where
   -- wherever it is stopped
-  pub look_leaves : IsSettling g → IsLawful (view h) → DiskKept g s → Reads g r s
-      → LookLeaves g view size r s h k
+  pub look_leaves : IsSettling g → IsLawful (j.view h) → DiskKept g s → Reads g r s
+      → LookLeaves g j r s h k
   look_leaves settling lawful clean reads away ts bytes u w at =
-      read_only g view size r s h k away at.tables ts bytes u w
+      read_only g j r s h k away at.tables ts bytes u w
       (saved g settling r at.tables at.has).crash clean
       (reads.left at.tables at.has)
-      (λ x l. at.leads x (quiet_moment (view h) (view k) lawful quiet x l))
+      (λ x l. at.leads x (quiet_moment (j.view h) (j.view k) lawful quiet x l))
       (λ x l. at.leads x (quiet.crash x l))
 
   -- if it ended well
-  pub look_does : ((t : Tables) → HasTables g r t → HasTables g s t) → size k ≡ size h
-      → LookDoes g view size r s h k
+  pub look_does : ((t : Tables) → HasTables g r t → HasTables g s t) → j.size k ≡ j.size h
+      → LookDoes g j r s h k
   look_does tables sizes = record { tables = tables; images = quiet.crash; sizes = sizes }
 
-module _ {S H : Type 0} (g : Ghosts S) (view : H → View) (size : H → Sizes) where
+module _ {S H : Type 0} (g : Ghosts S) (j : ShelfGhosts H) where
   -- after a look, a bench is where it was before
   abbrev pub looked_at : (r s : Held S) (h k : H) (away : Image) (ts : List Intent)
       (bytes : List (List ℕ)) (u w : World)
-      → LookDoes g view size r s h k → IsAt g view size r h away ts bytes u w
-      → IsAt g view size s k away ts bytes u w
+      → LookDoes g j r s h k → IsAt g j r h away ts bytes u w
+      → IsAt g j s k away ts bytes u w
   looked_at r s h k away ts bytes u w does at = record {
     tables = at.tables;
     has = does.tables at.tables at.has;
     sizes = at.sizes ∙ sym does.sizes;
     at_hand = subst (λ (z : Sizes). (t : Intent) → Has ts t
         → IsAtHand z t) (sym does.sizes) at.at_hand;
-    leads = subst (λ (z : Sizes). AllLead at.tables ts bytes z away (view k).may_leave u w)
+    leads = subst (λ (z : Sizes). AllLead at.tables ts bytes z away (j.view k).may_leave u w)
         (sym does.sizes) (λ x l. at.leads x (does.images x l));
   }
 
@@ -88,9 +88,9 @@ module _ {S H T : Type 0} (s : Ghosts S) (h : ShelfGhosts H) (settling : IsSettl
   looks_by stays reads only disk tables = record {
     stays = stays;
     does = λ honest clean. on_ok result (tables honest clean)
-        (λ tables. look_does s h.view h.size (registry_of a) (registry_of c) (shelf_of a)
+        (λ tables. look_does s h (registry_of a) (registry_of c) (shelf_of a)
         (shelf_of c) (only.reads honest).quiet tables only.keeps.size);
-    leaves = λ honest clean. look_leaves s h.view h.size (registry_of a) (registry_of c)
+    leaves = λ honest clean. look_leaves s h (registry_of a) (registry_of c)
         (shelf_of a) (shelf_of c) (only.reads honest).quiet settling (lawful honest) clean
         reads;
     store = reads;
@@ -163,7 +163,7 @@ module _ {S H T : Type 0} (s : Ghosts S) (h : ShelfGhosts H) (settling : IsSettl
   closed_looks lawful = record {
     stays = not_ok result _ is;
     does = λ honest clean. not_ok result _ is;
-    leaves = λ honest clean. look_leaves s h.view h.size (registry_of b) (registry_of b)
+    leaves = λ honest clean. look_leaves s h (registry_of b) (registry_of b)
         (shelf_of b) (shelf_of b) (quiet_itself (h.view (shelf_of b))) settling (lawful honest)
         clean (reads_none s settling (registry_of b));
     store = reads_none s settling (registry_of b);

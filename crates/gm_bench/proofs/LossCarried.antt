@@ -3,8 +3,9 @@ use Rattle.std.proofs.Common.{◌≡◌, inl, inr, ℕ, List, None, refl, sym, a
 use Rattle.sqlite_trees.specs.declared.store.Store.{Ghosts}
 use Rattle.sqlite.specs.Tree.{Trees}
 use Rattle.sqlite.specs.Held.{Held}
-use Rattle.gm_metadata.specs.Images.{Image, Sizes}
-use Rattle.gm_shelf.specs.Disk.{View, IsLawful}
+use Rattle.gm_metadata.specs.Images.{Image}
+use Rattle.gm_shelf.specs.declared.shelf.Shelf.{Ghosts as ShelfGhosts}
+use Rattle.gm_shelf.specs.Disk.{IsLawful}
 use Rattle.gm_rules.specs.AbstractCalls.{Call}
 use Rattle.gm_state.specs.declared.intents.Intent.{Intent}
 use Rattle.gm_state.specs.Records.{Records}
@@ -21,86 +22,86 @@ use Rattle.gm_bench.proofs.Found.{covered, ready}
 use Rattle.gm_bench.proofs.RegistryLeaves.{leads_in, read_only}
 use Rattle.gm_bench.proofs.TakenUp.{absent_back, leaves_back, moved}
 
-module _ {S H : Type 0} (g : Ghosts S) (view : H → View) (size : H → Sizes) where
+module _ {S H : Type 0} (g : Ghosts S) (j : ShelfGhosts H) where
   -- nothing was written
   pub not_committed : (r s : Held S) (h : H) (away : Image) (ts : List Intent)
       (bytes : List (List ℕ)) (u w : World)
-      → IsLawful (view h) → (at : IsFound g view size r h away ts bytes u w)
+      → IsLawful (j.view h) → (at : IsFound g j r h away ts bytes u w)
       → CrashLeavesOnly g r at.tables → ((db : Trees) → CrashLeaves g s db → CrashLeaves g r db)
       → (call : Call) (p : List ℕ) (gone : List Intent)
-      → LeavesCommit g view size r s h away u w call p gone
+      → LeavesCommit g j r s h away u w call p gone
   not_committed r s h away ts bytes u w lawful at only left call p gone = record {
-    within = leads_in g view size r h away at.tables ts bytes u w only
-        ((view h).left_since (view h).moment) (λ x l. at.leads x (lawful.only_now x l));
-    end = λ db l. inl (leads_in g view size r h away at.tables ts bytes u w only (view h).may_leave
+    within = leads_in g j r h away at.tables ts bytes u w only
+        ((j.view h).left_since (j.view h).moment) (λ x l. at.leads x (lawful.only_now x l));
+    end = λ db l. inl (leads_in g j r h away at.tables ts bytes u w only (j.view h).may_leave
         at.leads db (left db l));
   }
 
   module _ (r : Held S) (h k : H) (away : Image) (loss : Loss) (key p : List ℕ) (ts : List Intent)
-      (u w : World) (n : ℕ) (lawful : IsLawful (view h)) (same : k ≡ h)
-      (it : IsLost g view size r h away loss key p ts u w n)
-      (none : first_absent loss.after (size h) loss.intents.items ≡ None) (items : List Intent)
+      (u w : World) (n : ℕ) (lawful : IsLawful (j.view h)) (same : k ≡ h)
+      (it : IsLost g j r h away loss key p ts u w n)
+      (none : first_absent loss.after (j.size h) loss.intents.items ≡ None) (items : List Intent)
       (are : items ≡ loss.intents.items) (laid : List (List ℕ))
       (laid_are : laid ≡ loss.bytes.items) where
-    abbrev found : IsFound g view size r k away items laid u it.0
-    found = moved g view size r r h k away loss.intents.items loss.bytes.items u it.0 it.6 same
+    abbrev found : IsFound g j r k away items laid u it.0
+    found = moved g j r r h k away loss.intents.items loss.bytes.items u it.0 it.6 same
         items are laid laid_are it.6.has
 
-    lawful_still : IsLawful (view k)
-    lawful_still = subst (λ (x : H). IsLawful (view x)) (sym same) lawful
+    lawful_still : IsLawful (j.view k)
+    lawful_still = subst (λ (x : H). IsLawful (j.view x)) (sym same) lawful
 
-    pub at_hand : IsAt g view size r k away items laid u it.0
-    at_hand = ready g view size r k away items laid u it.0 found lawful_still loss.after it.5
-        (absent_back loss.after loss.after (size h) (size k) loss.intents.items items None refl
-        (sym (ap size same)) (sym are) none)
+    pub at_hand : IsAt g j r k away items laid u it.0
+    at_hand = ready g j r k away items laid u it.0 found lawful_still loss.after it.5
+        (absent_back loss.after loss.after (j.size h) (j.size k) loss.intents.items items None refl
+        (sym (ap j.size same)) (sym are) none)
 
     pub covers : Cover loss.after it.0.state items
-    covers = covered g view size r k away items laid u it.0 found lawful_still loss.after it.5
+    covers = covered g j r k away items laid u it.0 found lawful_still loss.after it.5
 
 -- after a load and a look at the registry, which leave the shelf
-module _ {S H : Type 0} (g : Ghosts S) (view : H → View) (size : H → Sizes) (r mid : Held S)
-    (h k : H) (same : k ≡ h) (lawful : IsLawful (view h))
+module _ {S H : Type 0} (g : Ghosts S) (j : ShelfGhosts H) (r mid : Held S)
+    (h k : H) (same : k ≡ h) (lawful : IsLawful (j.view h))
     (only : (t : Tables) → HasTables g r t → CrashLeavesOnly g r t) where
   pub nothing_opened : (key p : List ℕ) → DiskKept g mid
       → ((t : Tables) → HasTables g r t → LeavesNothingNew g r mid)
-      → LeavesOpened g view size key p r mid h k
+      → LeavesOpened g j key p r mid h k
   nothing_opened key p clean left away ts bytes u w at =
-      subst (λ (x : H). LeavesOnly g view size r mid h x away u w) (sym same)
-      (read_only g view size r mid h h away at.tables ts bytes u w (only at.tables at.has) clean
+      subst (λ (x : H). LeavesOnly g j r mid h x away u w) (sym same)
+      (read_only g j r mid h h away at.tables ts bytes u w (only at.tables at.has) clean
       (left at.tables at.has) (λ x l. at.leads x (lawful.only_now x l)) at.leads)
 
   -- what was loaded is carried out over it
   pub finished_opened : (key p : List ℕ) (state : Records) (is : List Intent)
       (laid : List (List ℕ)) (s : Held S) (l : H)
       → ((away : Image) (ts : List Intent) (bytes : List (List ℕ)) (u w : World)
-      → (at : IsFound g view size r h away ts bytes u w)
+      → (at : IsFound g j r h away ts bytes u w)
       → (state ≡ w.state) × (is ≡ ts) × (laid ≡ bytes) × HasTables g mid at.tables)
-      → ((away : Image) (u w : World) → (at : IsFound g view size mid k away is laid u w)
+      → ((away : Image) (u w : World) → (at : IsFound g j mid k away is laid u w)
       → state ≡ w.state
-      → AllLead at.tables is laid (size k) away ((view l).left_since (view k).moment) u w)
-      → ((away : Image) (u w : World) → IsFound g view size mid k away is laid u w
-      → state ≡ w.state → LeavesOnly g view size mid s k l away u w)
-      → LeavesOpened g view size key p r s h l
+      → AllLead at.tables is laid (j.size k) away ((j.view l).left_since (j.view k).moment) u w)
+      → ((away : Image) (u w : World) → IsFound g j mid k away is laid u w
+      → state ≡ w.state → LeavesOnly g j mid s k l away u w)
+      → LeavesOpened g j key p r s h l
   finished_opened key p state is laid s l loaded moments leaves away ts bytes u w at =
       let was = loaded away ts bytes u w at in
-      let found = moved g view size r mid h k away ts bytes u w at same is was.1 laid was.2 was.3 in
-      leaves_back g view size r mid h k away ts bytes u w at same is was.1 laid was.2 s l
+      let found = moved g j r mid h k away ts bytes u w at same is was.1 laid was.2 was.3 in
+      leaves_back g j r mid h k away ts bytes u w at same is was.1 laid was.2 s l
       (only at.tables at.has) (moments away u w found was.0) (leaves away u w found was.0)
 
   pub lost_behind : (B : Image → List Intent → List (List ℕ) → World → World → Type 0) (call : Call)
       (p : List ℕ)
       → ((away : Image) (ts : List Intent) (bytes : List (List ℕ)) (u w : World)
-      → IsFound g view size r h away ts bytes u w
-      → B away ts bytes u w) → (s : Held S) (l : H) → LeavesLoss g view size B call p mid s k l
-      → LeavesLoss g view size (IsFound g view size r h) call p r s h l
+      → IsFound g j r h away ts bytes u w
+      → B away ts bytes u w) → (s : Held S) (l : H) → LeavesLoss g j B call p mid s k l
+      → LeavesLoss g j (IsFound g j r h) call p r s h l
   lost_behind B call p so s l leaves =
-      let here : LeavesLoss g view size B call p mid s h l =
-      subst (λ (x : H). LeavesLoss g view size B call p mid s x l) same leaves in
-      let began : (m : Held S) → Commits g view size B call p mid m h
-      → Commits g view size (IsFound g view size r h) call p r m h =
+      let here : LeavesLoss g j B call p mid s h l =
+      subst (λ (x : H). LeavesLoss g j B call p mid s x l) same leaves in
+      let began : (m : Held S) → Commits g j B call p mid m h
+      → Commits g j (IsFound g j r h) call p r m h =
       λ m commits away ts bytes u w at. record {
-        within = leads_in g view size r h away at.tables ts bytes u w (only at.tables at.has)
-            ((view h).left_since (view h).moment) (λ x l. at.leads x (lawful.only_now x l));
+        within = leads_in g j r h away at.tables ts bytes u w (only at.tables at.has)
+            ((j.view h).left_since (j.view h).moment) (λ x l. at.leads x (lawful.only_now x l));
         end = (commits away ts bytes u w (so away ts bytes u w at)).end;
       } in
       elim here [

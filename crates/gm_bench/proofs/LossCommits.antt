@@ -9,7 +9,8 @@ use Rattle.std.proofs.lemmas.List.Sorted.{IsPermutation-refl, IsPermutation-cons
 use Rattle.sqlite_trees.specs.declared.store.Store.{Ghosts}
 use Rattle.sqlite.specs.Held.{Held}
 use Rattle.gm_metadata.specs.Images.{Image, Sizes, same_label}
-use Rattle.gm_shelf.specs.Disk.{View, IsLawful}
+use Rattle.gm_shelf.specs.declared.shelf.Shelf.{Ghosts as ShelfGhosts}
+use Rattle.gm_shelf.specs.Disk.{IsLawful}
 use Rattle.gm_commands.specs.declared.command.Command.{Command}
 use Rattle.gm_commands.specs.declared.command.Command.TheVariants.{Lost}
 use Rattle.gm_state.specs.declared.intents.Intent.{Intent}
@@ -148,26 +149,26 @@ module _ (w v : World) (key : List ℕ) (c : Command) (ch : Changed) (ts : List 
   pub patches_are : after.patches ≡ patch_rows left
   patches_are = change_patches change key (words_of c) (settled t) ∙ append-nil (patch_rows left)
 
-module _ {S H : Type 0} (g : Ghosts S) (view : H → View) (size : H → Sizes) (r s : Held S) (h : H)
+module _ {S H : Type 0} (g : Ghosts S) (j : ShelfGhosts H) (r s : Held S) (h : H)
     (away : Image) (ts : List Intent) (bytes : List (List ℕ)) (u w : World)
-    (lawful : IsLawful (view h))
-    (at : IsFound g view size r h away ts bytes u w) (key n p next : List ℕ)
+    (lawful : IsLawful (j.view h))
+    (at : IsFound g j r h away ts bytes u w) (key n p next : List ℕ)
     (m : Mirror) (found_is : mirror_of w.state n ≡ Some m)
-    (here : (k : Component) × IsOf w.state m k × (k.provider ≡ p)) (gone : size h p ≡ None)
+    (here : (k : Component) × IsOf w.state m k × (k.provider ≡ p)) (gone : j.size h p ≡ None)
     (ch : Changed) (makes : Makes w.state (seen_of w) (Lost n (p ∷ [])) ch)
     (can : CanAnswer w key (Lost n (p ∷ []))) where
   abbrev pub c : Command
   c = Lost n (p ∷ [])
 
   abbrev pub y : Image → Image
-  y x = whole (size h) away x
+  y x = whole (j.size h) away x
 
-  pub leads_with : (x : Image) → (view h).may_leave x
+  pub leads_with : (x : Image) → (j.view h).may_leave x
       → Leads at.tables ts bytes (y x) w × KeepsClaims ts (y x) u w
   leads_with x left = at.leads x left
 
-  abbrev pub first : Leads at.tables ts bytes (y (view h).seen) w
-  first = (leads_with (view h).seen lawful.holds_now).0
+  abbrev pub first : Leads at.tables ts bytes (y (j.view h).seen) w
+  first = (leads_with (j.view h).seen lawful.holds_now).0
 
   abbrev pub has_plan : HasPlan w key c
   has_plan = every_plan w key c first.sound can makes.good
@@ -187,8 +188,8 @@ module _ {S H : Type 0} (g : Ghosts S) (view : H → View) (size : H → Sizes) 
   abbrev pub world : World
   world = as_left v p away
 
-  at_p : (x : Image) (j : ℕ) → y x p j ≡ away p j
-  at_p x j = rw gone refl
+  at_p : (x : Image) (i : ℕ) → y x p i ≡ away p i
+  at_p x i = rw gone refl
 
   -- the world of the step, but for what p was left with
   pub stepped : IsStepWithout w (record { key = key; command = c }) p (dropped p ts) world
@@ -202,33 +203,32 @@ module _ {S H : Type 0} (g : Ghosts S) (view : H → View) (size : H → Sizes) 
     holds = refl;
     answered = refl;
     size = refl;
-    shelf = λ q j off. elim (cases_Bool (same_label q p)) [
+    shelf = λ q i off. elim (cases_Bool (same_label q p)) [
       | inr d ↦ rw d refl
-      | inl e ↦ subst (λ (x : List ℕ). world.shelf x j ≡ v.shelf x j) (sym (same_is q p e))
-          (kept j (subst (λ (x : List ℕ).
-          (same_label p x && is_place w.size (dropped p ts) x j) ≡ false)
-          (same_is q p e) off))
+      | inl e ↦ subst (λ (x : List ℕ). world.shelf x i ≡ v.shelf x i) (sym (same_is q p e))
+          (kept i (subst (λ (x : List ℕ).
+          (same_label p x && is_place w.size (dropped p ts) x i) ≡ false) (same_is q p e) off))
     ];
   }
     where
-      kept : (j : ℕ) → (same_label p p && is_place w.size (dropped p ts) p j) ≡ false
-          → world.shelf p j ≡ v.shelf p j
-      kept j off =
-          let none : is_place w.size (dropped p ts) p j ≡ false =
+      kept : (i : ℕ) → (same_label p p && is_place w.size (dropped p ts) p i) ≡ false
+          → world.shelf p i ≡ v.shelf p i
+      kept i off =
+          let none : is_place w.size (dropped p ts) p i ≡ false =
           rw (same_from p p refl) at off in
           let there : IsSome (w.size p) =
           subst (λ (q : List ℕ). IsSome (w.size q)) here.2
           (some_there (w.size here.0.provider) here.0.sectors
           (first.sound.sizes m here.0 here.1)) in
-          let left : away p j ≡ w.shelf p j = sym (at_p (view h).seen j)
-          ∙ first.redo.agrees p there j (no_place p w.size ts j none) in
-          let stays : v.shelf p j ≡ w.shelf p j =
-          loss_is.shelf p j (λ k h same _. (loss_is.components k (member v.state m.name k h).0).1
+          let left : away p i ≡ w.shelf p i = sym (at_p (j.view h).seen i)
+          ∙ first.redo.agrees p there i (no_place p w.size ts i none) in
+          let stays : v.shelf p i ≡ w.shelf p i =
+          loss_is.shelf p i (λ k h same _. (loss_is.components k (member v.state m.name k h).0).1
           same) in
-          (let on : world.shelf p j ≡ away p j = rw (same_from p p refl) refl in
+          (let on : world.shelf p i ≡ away p i = rw (same_from p p refl) refl in
           on) ∙ (left ∙ sym stays)
 
-  pub same_present : present world ≡ size h
+  pub same_present : present world ≡ j.size h
   same_present =
       (λ i q. if plan.step.there q i then plan.step.sizes q i else None) ∙ at.sizes
 
@@ -244,7 +244,7 @@ module _ {S H : Type 0} (g : Ghosts S) (view : H → View) (size : H → Sizes) 
     t = with_accepted (record ch { intents = all; bytes = left }) key (words_of c)
         (settled at.tables)
 
-    leads : AllLead t all left (size h) away (view h).may_leave u world
+    leads : AllLead t all left (j.size h) away (j.view h).may_leave u world
     leads x may =
         let l = leads_with x may in
         let rows_are : HoldRecords v t =
@@ -260,14 +260,13 @@ module _ {S H : Type 0} (g : Ghosts S) (view : H → View) (size : H → Sizes) 
         )
 
     pub loss_leaves : CrashLeavesOnly g r at.tables → DiskKept g s → MayLeave g r s t
-        → LeavesCommit g view size r s h away u w (record { key = key; command = c }) p
-        (dropped p ts)
+        → LeavesCommit g j r s h away u w (record { key = key; command = c }) p (dropped p ts)
     loss_leaves only clean may = record {
-      within = leads_in g view size r h away at.tables ts bytes u w only
-          ((view h).left_since (view h).moment) (λ x l. at.leads x (lawful.only_now x l));
+      within = leads_in g j r h away at.tables ts bytes u w only
+          ((j.view h).left_since (j.view h).moment) (λ x l. at.leads x (lawful.only_now x l));
       end = λ db it. elim (may.crash clean db it) [
-        | inl was ↦ inl (leads_in g view size r h away at.tables ts bytes u w only
-            (view h).may_leave at.leads db was)
+        | inl was ↦ inl (leads_in g j r h away at.tables ts bytes u w only
+            (j.view h).may_leave at.leads db was)
         | inr is ↦ inr (
           world,
           stepped,
@@ -278,25 +277,25 @@ module _ {S H : Type 0} (g : Ghosts S) (view : H → View) (size : H → Sizes) 
     }
 
     -- at its end those tables are found, with what is pending then
-    pub loss_found : HasTables g s t → IsFound g view size s h away all left u world
+    pub loss_found : HasTables g s t → IsFound g j s h away all left u world
     loss_found has =
         record { tables = t; has = has; sizes = same_present; leads = leads }
 
 -- of a loss that nothing refuses
-module _ {S H : Type 0} (g : Ghosts S) (view : H → View) (size : H → Sizes) (r s : Held S) (h : H)
+module _ {S H : Type 0} (g : Ghosts S) (j : ShelfGhosts H) (r s : Held S) (h : H)
     (away : Image) (ts : List Intent) (bytes : List (List ℕ)) (u w : World)
-    (lawful : IsLawful (view h))
-    (at : IsFound g view size r h away ts bytes u w) (key p : List ℕ) (loss : Loss)
-    (j : IsNewLoss w ts bytes key p loss) where
+    (lawful : IsLawful (j.view h))
+    (at : IsFound g j r h away ts bytes u w) (key p : List ℕ) (loss : Loss)
+    (new : IsNewLoss w ts bytes key p loss) where
   abbrev k : Component
-  k = j.component
+  k = new.component
 
-  began : Leads at.tables ts bytes (whole (size h) away (view h).seen) w
-  began = lead g view size r h away ts bytes u w at lawful
+  began : Leads at.tables ts bytes (whole (j.size h) away (j.view h).seen) w
+  began = lead g j r h away ts bytes u w at lawful
 
   at_home : (m : Mirror) × IsOf w.state m k
   at_home = home w.state began.sound.state k
-      (found (λ (x : Component). same_label x.provider p) w.state.components k j.on).0
+      (found (λ (x : Component). same_label x.provider p) w.state.components k new.on).0
 
   abbrev m : Mirror
   m = at_home.0
@@ -309,90 +308,85 @@ module _ {S H : Type 0} (g : Ghosts S) (view : H → View) (size : H → Sizes) 
       (find_one name w.state.mirrors began.sound.state.mirrors_in_order m at_home.1.mirror)
 
   abbrev here : (x : Component) × IsOf w.state m x × (x.provider ≡ p)
-  here = (k, at_home.1, provider_at w.state p k j.on)
+  here = (k, at_home.1, provider_at w.state p k new.on)
 
-  gone : size h p ≡ None
-  gone = subst (λ (z : Sizes). z p ≡ None) at.sizes j.away
+  gone : j.size h p ≡ None
+  gone = subst (λ (z : Sizes). z p ≡ None) at.sizes new.away
 
   abbrev stepped_to : World
-  stepped_to = v g view size r s h away ts bytes u w lawful at key k.mirror p j.next m found_is here
-      gone
-      loss.change j.makes j.can
+  stepped_to = v g j r s h away ts bytes u w lawful at key k.mirror p new.next m found_is here gone
+      loss.change new.makes new.can
 
   -- the records are those of the step
   after_is : loss.after ≡ stepped_to.state
-  after_is = j.after ∙ (j.makes.records ∙ sym (plan g view size r s h away ts bytes u w lawful at
-      key
-      k.mirror p j.next m found_is here gone loss.change j.makes j.can).step.records)
+  after_is = new.after ∙ (new.makes.records ∙ sym (plan g j r s h away ts bytes u w lawful at key
+      k.mirror p new.next m found_is here gone loss.change new.makes new.can).step.records)
 
-  serves_next : HasNext stepped_to.state p j.next ts
-  serves_next = has_next w stepped_to m p j.next
-      (loss_is g view size r s h away ts bytes u w lawful at key k.mirror p j.next m found_is here
-      gone
-      loss.change j.makes j.can) began.sound ts bytes began.readable
-      (λ t a b stands. next_told stepped_to.state p j.next ts began.readable.one_copy
-      (subst (λ (x : Records). next_of x p ts ≡ Some j.next) after_is j.next_is) t a b stands)
+  serves_next : HasNext stepped_to.state p new.next ts
+  serves_next = has_next w stepped_to m p new.next
+      (loss_is g j r s h away ts bytes u w lawful at key k.mirror p new.next m found_is here gone
+      loss.change new.makes new.can) began.sound ts bytes began.readable
+      (λ t a b stands. next_told stepped_to.state p new.next ts began.readable.one_copy
+      (subst (λ (x : Records). next_of x p ts ≡ Some new.next) after_is new.next_is) t a b stands)
 
   abbrev behind : Tables
   behind = with_accepted (with_pending loss.change loss.intents.items loss.bytes.items) key
       (string_bytes loss.words) (settled at.tables)
 
   abbrev now : Tables
-  now = t g view size r s h away ts bytes u w lawful at key k.mirror p j.next m found_is here gone
-      loss.change j.makes j.can serves_next
+  now = t g j r s h away ts bytes u w lawful at key k.mirror p new.next m found_is here gone
+      loss.change new.makes new.can serves_next
 
   abbrev all_behind : List Intent
-  all_behind = pending_after p j.next ts (members stepped_to.state.components m.name)
+  all_behind = pending_after p new.next ts (members stepped_to.state.components m.name)
 
   all_is : loss.intents.items ≡ all_behind
-  all_is = j.intents ∙ (ap (λ (x : Records). pending_after p j.next ts
+  all_is = new.intents ∙ (ap (λ (x : Records). pending_after p new.next ts
       (members x.components k.mirror)) after_is
-      ∙ ap (λ (q : List ℕ). pending_after p j.next ts (members stepped_to.state.components q)) mine)
+      ∙ ap (λ (q : List ℕ). pending_after p new.next ts (members stepped_to.state.components q))
+      mine)
 
   left_is : loss.bytes.items ≡ left_to_lay all_behind bytes
-  left_is = j.to_lay ∙ ap (λ (is : List Intent). left_to_lay is bytes) all_is
+  left_is = new.to_lay ∙ ap (λ (is : List Intent). left_to_lay is bytes) all_is
 
   now_is : behind ≡ now
   now_is = (λ i. with_accepted (with_pending loss.change (all_is i) (left_is i)) key
       (string_bytes loss.words) (settled at.tables))
       ∙ ap (λ (l : List ℕ). with_accepted (with_pending loss.change all_behind
-      (left_to_lay all_behind bytes)) key l (settled at.tables)) j.words
+      (left_to_lay all_behind bytes)) key l (settled at.tables)) new.words
 
   call_is : record { key = key; command = Lost k.mirror (p ∷ []) } ≡ loss_call key loss.mirror p
-  call_is = ap (λ (q : List ℕ). loss_call key q p) (sym j.mirror)
+  call_is = ap (λ (q : List ℕ). loss_call key q p) (sym new.mirror)
 
   pub commits : CrashLeavesOnly g r at.tables → DiskKept g s → MayLeave g r s behind
-      → LeavesCommit g view size r s h away u w (loss_call key loss.mirror p) p (dropped p ts)
+      → LeavesCommit g j r s h away u w (loss_call key loss.mirror p) p (dropped p ts)
   commits only clean may =
-      subst (λ (c : Call). LeavesCommit g view size r s h away u w c p (dropped p ts)) call_is
-      (loss_leaves g view size r s h away ts bytes u w lawful at key k.mirror p j.next m found_is
-      here
-      gone loss.change j.makes j.can serves_next only clean
+      subst (λ (c : Call). LeavesCommit g j r s h away u w c p (dropped p ts)) call_is
+      (loss_leaves g j r s h away ts bytes u w lawful at key k.mirror p new.next m found_is here
+      gone loss.change new.makes new.can serves_next only clean
       (subst (λ (x : Tables). MayLeave g r s x) now_is may))
 
   pub lost : HasTables g s behind → (n : ℕ) → n ≡ count_of at.tables + 1
-      → IsLost g view size s h away loss key p ts u w n
+      → IsLost g j s h away loss key p ts u w n
   unfolding stepped
   lost has n is = (
-    world g view size r s h away ts bytes u w lawful at key k.mirror p j.next m found_is here gone
-        loss.change j.makes j.can,
-    subst (λ (c : Call). IsStepWithout w c p (dropped p ts) (world g view size r s h away ts bytes u
-        w
-        lawful at key k.mirror p j.next m found_is here gone loss.change j.makes j.can)) call_is
-        (stepped g view size r s h away ts bytes u w lawful at key k.mirror p j.next m found_is here
-        gone loss.change j.makes j.can),
-    sym j.makes.reply,
+    world g j r s h away ts bytes u w lawful at key k.mirror p new.next m found_is here gone
+        loss.change new.makes new.can,
+    subst (λ (c : Call). IsStepWithout w c p (dropped p ts) (world g j r s h away ts bytes u w
+        lawful at key k.mirror p new.next m found_is here gone loss.change new.makes new.can))
+        call_is
+        (stepped g j r s h away ts bytes u w lawful at key k.mirror p new.next m found_is here
+        gone loss.change new.makes new.can),
+    sym new.makes.reply,
     (let many = as_many_of w at.tables began.sound began.records key (Lost k.mirror (p ∷ [])) in
         omega (arith, is, many)),
-    same_present g view size r s h away ts bytes u w lawful at key k.mirror p j.next m found_is here
-        gone
-        loss.change j.makes j.can,
+    same_present g j r s h away ts bytes u w lawful at key k.mirror p new.next m found_is here gone
+        loss.change new.makes new.can,
     after_is,
-    subst₂ (λ (is : List Intent) (b : List (List ℕ)). IsFound g view size s h away is b u
-        (world g view size r s h away ts bytes u w lawful at key k.mirror p j.next m found_is here
-        gone loss.change j.makes j.can)) (sym all_is) (sym left_is)
-        (loss_found g view size r s h away ts bytes u w lawful at key k.mirror p j.next m found_is
-        here
-        gone loss.change j.makes j.can serves_next
+    subst₂ (λ (is : List Intent) (b : List (List ℕ)). IsFound g j s h away is b u
+        (world g j r s h away ts bytes u w lawful at key k.mirror p new.next m found_is here
+        gone loss.change new.makes new.can)) (sym all_is) (sym left_is)
+        (loss_found g j r s h away ts bytes u w lawful at key k.mirror p new.next m found_is here
+        gone loss.change new.makes new.can serves_next
         (subst (λ (x : Tables). HasTables g s x) now_is has)),
   )

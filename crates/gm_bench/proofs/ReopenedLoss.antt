@@ -3,8 +3,9 @@ use Rattle.std.proofs.Common.{◌≡◌, ◌∙◌, ◌⊎◌, inl, inr, Ok, ℕ
 use Rattle.sqlite_trees.specs.declared.store.Store.{Ghosts}
 use Rattle.sqlite.specs.Tree.{Trees}
 use Rattle.sqlite.specs.Held.{Held, state}
-use Rattle.gm_metadata.specs.Images.{Image, Sizes}
-use Rattle.gm_shelf.specs.Disk.{View, IsLawful}
+use Rattle.gm_metadata.specs.Images.{Image}
+use Rattle.gm_shelf.specs.declared.shelf.Shelf.{Ghosts as ShelfGhosts}
+use Rattle.gm_shelf.specs.Disk.{IsLawful}
 use Rattle.gm_rules.specs.AbstractCalls.{Call}
 use Rattle.gm_state.specs.declared.intents.Intent.{Intent}
 use Rattle.gm_state.specs.declared.intents.Reply.{Reply}
@@ -29,32 +30,32 @@ use Rattle.gm_bench.specs.Without.{Carries, Commits, DoesLoss, DoesWithout, Keep
 use Rattle.gm_bench.proofs.DecidesOnly.{alone_then}
 use Rattle.gm_bench.proofs.ReopenedStore.{carried_then, found_at, is_opening, only_opened, opens_over}
 
-module _ {S H : Type 0} (g : Ghosts S) (view : H → View) (size : H → Sizes) (store mid : Held S)
+module _ {S H : Type 0} (g : Ghosts S) (j : ShelfGhosts H) (store mid : Held S)
     (h : H) (opened : (t : Tables) → IsStored (stored g store) t → HasTables g mid t) where
-  abbrev at_opened : (away : Image) (u w : World) → (left : IsLeft g view size store h away u w)
-      → IsFound g view size mid h away left.recovers.intents left.recovers.bytes u w
-  at_opened = found_at g view size store mid h opened
+  abbrev at_opened : (away : Image) (u w : World) → (left : IsLeft g j store h away u w)
+      → IsFound g j mid h away left.recovers.intents left.recovers.bytes u w
+  at_opened = found_at g j store mid h opened
 
   module _ (p : List ℕ) (call : Call) (gone : List Intent)
       (are : (away : Image) (ts : List Intent) (bytes : List (List ℕ)) (u w : World)
-      → IsFound g view size mid h away ts bytes u w → gone ≡ dropped p ts) where
-    gone_is : (away : Image) (u w : World) → (left : IsLeft g view size store h away u w)
+      → IsFound g j mid h away ts bytes u w → gone ≡ dropped p ts) where
+    gone_is : (away : Image) (u w : World) → (left : IsLeft g j store h away u w)
         → gone ≡ dropped p left.recovers.intents
     gone_is away u w left = are away left.recovers.intents left.recovers.bytes u w
         (at_opened away u w left)
 
-    committed : (s : Held S) → Commits g view size (IsFound g view size mid h) call p mid s h
-        → WithoutLeaves g view size store mid s h call p gone
+    committed : (s : Held S) → Commits g j (IsFound g j mid h) call p mid s h
+        → WithoutLeaves g j store mid s h call p gone
     committed s commits away u w left = (
       gone_is away u w left,
-      subst (λ (is : List Intent). LeavesCommit g view size mid s h away u w call p is)
+      subst (λ (is : List Intent). LeavesCommit g j mid s h away u w call p is)
           (sym (gone_is away u w left))
           (commits away left.recovers.intents left.recovers.bytes u w (at_opened away u w left)),
     )
 
     carried : (m s : Held S) (k : H)
-        → Carries g view size (IsFound g view size mid h) call p m s h k
-        → WithoutCarries g view size store m s h k call p gone
+        → Carries g j (IsFound g j mid h) call p m s h k
+        → WithoutCarries g j store m s h k call p gone
     carried m s k carries away u w left =
         let it = carries away left.recovers.intents left.recovers.bytes u w
         (at_opened away u w left) in (
@@ -67,8 +68,8 @@ module _ {S H : Type 0} (g : Ghosts S) (view : H → View) (size : H → Sizes) 
         )
 
     pub done : (s : Held S) (k : H) (n : ℕ) (reply : Reply)
-        → DoesLoss g view size (IsFound g view size mid h) call p s k n reply
-        → WithoutDoes g view size store s h k call p gone
+        → DoesLoss g j (IsFound g j mid h) call p s k n reply
+        → WithoutDoes g j store s h k call p gone
     done s k n reply does away u w left =
         let it = does away left.recovers.intents left.recovers.bytes u w (at_opened away u w left)
         in (
@@ -80,50 +81,49 @@ module _ {S H : Type 0} (g : Ghosts S) (view : H → View) (size : H → Sizes) 
         )
 
     pub lost_behind : (s : Held S) (k : H)
-        → LeavesLoss g view size (IsFound g view size mid h) call p mid s h k
-        → (WithoutLeaves g view size store mid s h call p gone × (k ≡ h))
-        ⊎ ((m : Held S) × WithoutLeaves g view size store mid m h call p gone
-        × WithoutCarries g view size store m s h k call p gone)
+        → LeavesLoss g j (IsFound g j mid h) call p mid s h k
+        → (WithoutLeaves g j store mid s h call p gone × (k ≡ h))
+        ⊎ ((m : Held S) × WithoutLeaves g j store mid m h call p gone
+        × WithoutCarries g j store m s h k call p gone)
     lost_behind s k (inl was) = inl (committed s was.0, was.1)
     lost_behind s k (inr is) = inr (is.0, committed is.0 is.1, carried is.0 s k is.2)
 
-  module _ (lawful : IsLawful (view h))
+  module _ (lawful : IsLawful (j.view h))
       (only : (db : Trees) → CrashLeaves g store db → db ≡ stored g store) (clean : DiskKept g mid)
       (may : (t : Tables) → IsStored (stored g store) t → MayLeave g store mid t) where
     pub undone : (key p : List ℕ) (b : Bench S H) (answer : Answer) (redone : ℕ)
-        → KeepsUndone g view size key p mid (registry_of b) h (shelf_of b) (Carried answer redone)
-        → LeavesUndone g view size store h key p (Opened b answer)
+        → KeepsUndone g j key p mid (registry_of b) h (shelf_of b) (Carried answer redone)
+        → LeavesUndone g j store h key p (Opened b answer)
     undone key p b (Done n reply) redone keeps = tt
     undone key p b (Repeated n reply) redone keeps =
-        opens_over g view size store mid h lawful only clean may opened (registry_of b) (shelf_of b)
-        keeps
+        opens_over g j store mid h lawful only clean may opened (registry_of b) (shelf_of b) keeps
     undone key p b (NotDone why) redone keeps = tt
 
     pub given_up : (key p : List ℕ) (s : Held S) (k : H)
-        → LeavesWithout g view size key p mid s h k → GivesUp g view size store h key p s k
+        → LeavesWithout g j key p mid s h k → GivesUp g j store h key p s k
     given_up key p s k (inl was) =
-        inl (opens_over g view size store mid h lawful only clean may opened s k was)
+        inl (opens_over g j store mid h lawful only clean may opened s k was)
     given_up key p s k (inr it) = inr (record {
       registry = mid;
-      opened = is_opening g view size store mid h lawful only clean may opened;
-      opening = only_opened g view size store mid h lawful only clean may opened;
+      opened = is_opening g j store mid h lawful only clean may opened;
+      opening = only_opened g j store mid h lawful only clean may opened;
       mirror = it.0;
       gone = it.1;
       committing = lost_behind p (loss_call key it.0 p) it.1 it.2 s k it.3;
     })
 
     pub lacking : (key p : List ℕ) (s : Held S) (k : H) (q : List ℕ)
-        → LacksFirst g view size key p mid s h k q → LacksImage g view size store h key p s k q
+        → LacksFirst g j key p mid s h k q → LacksImage g j store h key p s k q
     lacking key p s k q lacks = (
-      opens_over g view size store mid h lawful only clean may opened s k lacks.0,
+      opens_over g j store mid h lawful only clean may opened s k lacks.0,
       λ away u w left. lacks.1 away left.recovers.intents left.recovers.bytes u w
           (at_opened away u w left),
     )
 
   pub answered : (key p : List ℕ) (b : Bench S H) (answer : Answer) (redone : ℕ)
       → redone_of b ≡ redone
-      → DoesWithout g view size key p mid (registry_of b) h (shelf_of b) (Carried answer redone)
-      → AnswersLoss g view size store h key p (Opened b answer)
+      → DoesWithout g j key p mid (registry_of b) h (shelf_of b) (Carried answer redone)
+      → AnswersLoss g j store h key p (Opened b answer)
   answered key p b (Done n reply) redone same does = (
     does.0,
     does.1,

@@ -4,8 +4,9 @@ use Rattle.sqlite_trees.specs.declared.store.Store.{Ghosts}
 use Rattle.sqlite.specs.Tree.{Trees}
 use Rattle.sqlite.specs.Effect.{Database}
 use Rattle.sqlite.specs.Held.{Held, state}
-use Rattle.gm_metadata.specs.Images.{Image, Sizes}
-use Rattle.gm_shelf.specs.Disk.{View, IsLawful}
+use Rattle.gm_metadata.specs.Images.{Image}
+use Rattle.gm_shelf.specs.declared.shelf.Shelf.{Ghosts as ShelfGhosts}
+use Rattle.gm_shelf.specs.Disk.{IsLawful}
 use Rattle.gm_state.specs.declared.intents.Intent.{Intent}
 use Rattle.gm_state.specs.Rows.{Tables}
 use Rattle.gm_state.specs.World.{World}
@@ -28,14 +29,14 @@ known_store db (inl stored) = elim stored.1 [
 ]
 known_store db (inr foreign) = inr (inr foreign)
 
-module _ {S H : Type 0} (g : Ghosts S) (view : H → View) (size : H → Sizes) (start : Held S) (h : H)
-    (away : Image) (u w : World) (lawful : IsLawful (view h))
+module _ {S H : Type 0} (g : Ghosts S) (j : ShelfGhosts H) (start : Held S) (h : H)
+    (away : Image) (u w : World) (lawful : IsLawful (j.view h))
     (only : (db : Trees) → CrashLeaves g start db → db ≡ stored g start)
-    (r : Recovers (stored g start) (size h) away (view h).may_leave u w) where
+    (r : Recovers (stored g start) (j.size h) away (j.view h).may_leave u w) where
   -- the store as it was, with any images that lead on
-  as_it_was : (X : Image → Type 0) → AllLead r.tables r.intents r.bytes (size h) away X u w
+  as_it_was : (X : Image → Type 0) → AllLead r.tables r.intents r.bytes (j.size h) away X u w
       → (db : Trees)
-      → CrashLeaves g start db → Recovers db (size h) away X u w
+      → CrashLeaves g start db → Recovers db (j.size h) away X u w
   as_it_was X leads db left = record {
     tables = r.tables;
     intents = r.intents;
@@ -48,12 +49,12 @@ module _ {S H : Type 0} (g : Ghosts S) (view : H → View) (size : H → Sizes) 
   -- an opening that ended before anything was carried out
   pub unopened : (new : Held S) → DiskKept g new
       → ((t : Tables) → IsStored (stored g start) t → MayLeave g start new t)
-      → LeavesOnly g view size start new h h away u w
+      → LeavesOnly g j start new h h away u w
   unopened new clean may = record {
-    within = as_it_was ((view h).left_since (view h).moment)
+    within = as_it_was ((j.view h).left_since (j.view h).moment)
         (λ x l. r.leads x (lawful.only_now x l));
     end = λ db left. elim ((may r.tables r.stored).crash clean db left) [
-      | inl was ↦ as_it_was (view h).may_leave r.leads db was
+      | inl was ↦ as_it_was (j.view h).may_leave r.leads db was
       | inr is ↦ record {
         tables = r.tables;
         intents = r.intents;
@@ -67,7 +68,7 @@ module _ {S H : Type 0} (g : Ghosts S) (view : H → View) (size : H → Sizes) 
   -- and what a stop then leaves
   pub unopened_still : (new : Held S) → DiskKept g new
       → ((t : Tables) → IsStored (stored g start) t → MayLeave g start new t)
-      → LeavesOnly g view size new new h h away u w
+      → LeavesOnly g j new new h h away u w
   unopened_still new clean may =
       let end = (unopened new clean may).end in
       record {
@@ -83,11 +84,11 @@ module _ {S H : Type 0} (g : Ghosts S) (view : H → View) (size : H → Sizes) 
         end = end;
       }
 
-module _ {S H : Type 0} (g : Ghosts S) (view : H → View) (size : H → Sizes) (start mid : Held S)
+module _ {S H : Type 0} (g : Ghosts S) (j : ShelfGhosts H) (start mid : Held S)
     (h : H) (opened : (t : Tables) → IsStored (stored g start) t → HasTables g mid t) where
   -- what was left is found in the registry that is opened
-  pub found_at : (away : Image) (u w : World) → (left : IsLeft g view size start h away u w)
-      → IsFound g view size mid h away left.recovers.intents left.recovers.bytes u w
+  pub found_at : (away : Image) (u w : World) → (left : IsLeft g j start h away u w)
+      → IsFound g j mid h away left.recovers.intents left.recovers.bytes u w
   found_at away u w left = record {
     tables = left.recovers.tables;
     has = opened left.recovers.tables left.recovers.stored;
@@ -95,23 +96,23 @@ module _ {S H : Type 0} (g : Ghosts S) (view : H → View) (size : H → Sizes) 
     leads = left.recovers.leads;
   }
 
-module _ {S H : Type 0} (g : Ghosts S) (view : H → View) (size : H → Sizes) (start mid : Held S)
-    (h : H) (lawful : IsLawful (view h))
+module _ {S H : Type 0} (g : Ghosts S) (j : ShelfGhosts H) (start mid : Held S)
+    (h : H) (lawful : IsLawful (j.view h))
     (only : (db : Trees) → CrashLeaves g start db → db ≡ stored g start) (clean : DiskKept g mid)
     (may : (t : Tables) → IsStored (stored g start) t → MayLeave g start mid t) where
   -- what a stop leaves while the registry is opened, and after that
-  opening : (away : Image) (u w : World) → IsLeft g view size start h away u w
-      → LeavesOnly g view size start mid h h away u w
+  opening : (away : Image) (u w : World) → IsLeft g j start h away u w
+      → LeavesOnly g j start mid h h away u w
   opening away u w left =
-      unopened g view size start h away u w lawful only left.recovers mid clean may
+      unopened g j start h away u w lawful only left.recovers mid clean may
 
-  still : (away : Image) (u w : World) → IsLeft g view size start h away u w
-      → LeavesOnly g view size mid mid h h away u w
+  still : (away : Image) (u w : World) → IsLeft g j start h away u w
+      → LeavesOnly g j mid mid h h away u w
   still away u w left =
-      unopened_still g view size start h away u w lawful only left.recovers mid clean may
+      unopened_still g j start h away u w lawful only left.recovers mid clean may
 
   -- a registry that couldn't be opened
-  pub not_opened : OpenLeaves g view size start mid h h
+  pub not_opened : OpenLeaves g j start mid h h
   not_opened = record {
     registry = mid;
     opened = inr (refl, refl);
@@ -120,11 +121,11 @@ module _ {S H : Type 0} (g : Ghosts S) (view : H → View) (size : H → Sizes) 
   }
 
   module _ (opened : (t : Tables) → IsStored (stored g start) t → HasTables g mid t) where
-    pub is_opening : IsOpening g view size start mid
+    pub is_opening : IsOpening g j start mid
     is_opening = record { crash = may; tables = opened }
 
     -- one that was opened, and nothing more
-    pub only_opened : OpenLeaves g view size start mid h h
+    pub only_opened : OpenLeaves g j start mid h h
     only_opened = record {
       registry = mid;
       opened = inl is_opening;
@@ -135,14 +136,14 @@ module _ {S H : Type 0} (g : Ghosts S) (view : H → View) (size : H → Sizes) 
     -- what was carried out and settled after that
     pub opens_over : (s : Held S) (k : H)
         → ((away : Image) (ts : List Intent) (bytes : List (List ℕ)) (u w : World)
-        → IsFound g view size mid h away ts bytes u w → LeavesOnly g view size mid s h k away u w)
-        → OpenLeaves g view size start s h k
+        → IsFound g j mid h away ts bytes u w → LeavesOnly g j mid s h k away u w)
+        → OpenLeaves g j start s h k
     opens_over s k leaves = record {
       registry = mid;
       opened = inl is_opening;
       opening = opening;
       carrying = λ away u w left. leaves away left.recovers.intents left.recovers.bytes u w
-          (found_at g view size start mid h opened away u w left);
+          (found_at g j start mid h opened away u w left);
     }
 
 module _ {S : Type 0} (g : Ghosts S) (start mid : Held S) where

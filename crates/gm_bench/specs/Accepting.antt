@@ -6,8 +6,8 @@ use Rattle.gm_registry.specs.Changes.{settled}
 use Rattle.sqlite_trees.specs.declared.store.Store.{Ghosts}
 use Rattle.sqlite.specs.Tree.{Trees}
 use Rattle.sqlite.specs.Held.{Held}
-use Rattle.gm_metadata.specs.Images.{Image, Sizes}
-use Rattle.gm_shelf.specs.Disk.{View}
+use Rattle.gm_metadata.specs.Images.{Image}
+use Rattle.gm_shelf.specs.declared.shelf.Shelf.{Ghosts as ShelfGhosts}
 use Rattle.gm_commands.specs.declared.command.Command.{Command}
 use Rattle.gm_state.specs.declared.intents.Reply.{Reply}
 use Rattle.gm_state.specs.World.{World, Answered}
@@ -41,14 +41,14 @@ HasNothingElse Carried t = Unit {0}
 abbrev pub OrStep : World → World → List ℕ → Command → (World → World → Type 0) → Type 0
 OrStep v u key c P = P v u ⊎ ((w : World) × (r : Reply) × Step u key c w r × P u w)
 
-module _ {S H : Type 0} (g : Ghosts S) (view : H → View) (size : H → Sizes) where
+module _ {S H : Type 0} (g : Ghosts S) (j : ShelfGhosts H) where
   -- A stop leaves what led from v to u, or the command's step, whatever image goes with it.
   pub record LeavesStep (r s : Held S) (h k : H) (away : Image) (v u : World) (key : List ℕ)
       (c : Command) : Type 0 where
     pub within : (db : Trees) → CrashLeaves g r db
-        → Recovers db (size h) away ((view k).left_since (view h).moment) v u
+        → Recovers db (j.size h) away ((j.view k).left_since (j.view h).moment) v u
     pub end : (db : Trees) → CrashLeaves g s db
-        → OrStep v u key c (λ x w. Recovers db (size h) away (view k).may_leave x w)
+        → OrStep v u key c (λ x w. Recovers db (j.size h) away (j.view k).may_leave x w)
 
   -- The command is done with this number and reply: its key is new, and the bench is at the world
   -- of its step, with this work still to be carried out; whatever a crash leaves leads there alone.
@@ -57,9 +57,9 @@ module _ {S H : Type 0} (g : Ghosts S) (view : H → View) (size : H → Sizes) 
     pub world : World
     pub calls : run.Calls u (record { key = key; command = c }) world (run.Done n reply)
     pub is_new : (a : Answered) → Has u.answered a → a.key ≡ key → ⊥
-    pub at : IsAtWork g view size r h away work u world
+    pub at : IsAtWork g j r h away work u world
     pub only : (db : Trees) → CrashLeaves g r db
-        → Recovers db (size h) away (view h).may_leave u world
+        → Recovers db (j.size h) away (j.view h).may_leave u world
 
   -- The answer is the abstract bench's; if it isn't Done the bench stays in the same world, with
   -- the same intents to be taken out.
@@ -68,7 +68,7 @@ module _ {S H : Type 0} (g : Ghosts S) (view : H → View) (size : H → Sizes) 
   IsAnswered r h away ts bytes v u key c (Done n reply work) = IsDone r h away u key c n reply work
   IsAnswered r h away ts bytes v u key c (Repeated n reply) =
       run.Calls u (record { key = key; command = c }) u (run.Repeated n reply)
-      × IsCarriedOut g view size r h away ts bytes v u
+      × IsCarriedOut g j r h away ts bytes v u
   IsAnswered r h away ts bytes v u key c (Refused why) =
       run.Calls u (record { key = key; command = c }) u (run.Refused why)
-      × IsCarriedOut g view size r h away ts bytes v u
+      × IsCarriedOut g j r h away ts bytes v u

@@ -14,7 +14,7 @@ use Rattle.gm_registry.specs.Fitting.{HasRoom}
 use Rattle.gm_registry.specs.Replies.{AreWrittenUnder, count_of}
 use Rattle.gm_bench.specs.Benches.{media_of, progress_of, redone_of, registry_of, shelf_of}
 use Rattle.gm_bench.specs.ShelfFacts.{IsHonestToAdopt}
-use Rattle.gm_registry.specs.Registry.{DiskKept, HasTables, IsOpen, IsRegistry, LeavesNothingNew, Reads, StoreFailed, WasClean, seen}
+use Rattle.gm_registry.specs.Registry.{DiskKept, HasTables, IsOpen, IsRegistry, LeavesNothingNew, Reads, Refuses, StoreFailed, WasClean, seen}
 use Rattle.gm_bench.specs.declared.bench.Bench.{Bench}
 use Rattle.gm_bench.specs.declared.fault.BenchFault.{BenchFault}
 use Rattle.gm_bench.specs.declared.fault.BenchFault.TheVariants.{Absent, Closed, Disk, Store, Unreadable}
@@ -68,6 +68,25 @@ pub record WritesAlone {S H T : Type 0} (s : StoreGhosts S) (old new : Media S H
   pub fault : IfErr result IsOfRegistry
   pub readable : DiskKept s new.registry → IsErrOf result Unreadable → (t : Tables)
       → HasTables s old.registry t → count_of t ≤ 100000 → ⊥
+
+-- A call that writes to the shelf alone leaves the registry, and fails as the shelf does.
+pub record WritesShelf {S H T : Type 0} (h : ShelfGhosts H) (old new : Media S H)
+    (result : Result T BenchFault) : Type 0 where
+  pub registry : new.registry ≡ old.registry
+  pub keeps : Keeps h old.shelf new.shelf
+  pub not_store : IsErrOf result Store → ⊥
+  pub fault : IfErr result IsOfMedia
+
+-- A call that takes out of the registry what was pending leaves the shelf, and the tables if it
+-- fails, which it does for want of memory or as the store does.
+pub record SettlesMedia {S H T : Type 0} (s : StoreGhosts S) (old new : Media S H)
+    (result : Result T BenchFault) : Type 0 where
+  pub shelf : new.shelf ≡ old.shelf
+  pub clean : WasClean s old.registry new.registry
+  pub refused : Refuses s old.registry new.registry result
+  pub store : TellsStore s old.registry new.registry result
+  pub disk : IsErrOf result Disk → ⊥
+  pub fault : IfErr result IsOfMedia
 
 -- a call that only reads a shelf, and asks no store
 pub record Looks {H T : Type 0} (h : ShelfGhosts H) (old new : H)
@@ -177,6 +196,14 @@ pub record Keep {S H : Type 0} (s : StoreGhosts S) (h : ShelfGhosts H) (r t : He
   pub shelf : Keeps h k l
   pub clean : WasClean s r t
 
+-- A call that carries out what is pending and settles it keeps both media, and its faults are such:
+-- Store only if the store failed.
+pub record Finishes {S H T : Type 0} (s : StoreGhosts S) (h : ShelfGhosts H) (old new : Media S H)
+    (IsSuch : BenchFault → Type 0) (result : Result T BenchFault) : Type 0 where
+  pub store : TellsStore s old.registry new.registry result
+  pub fault : IfErr result IsSuch
+  pub keep : Keep s h old.registry new.registry old.shelf new.shelf
+
 -- A call that fails closes the bench, and at a closed one it does nothing. No image is told to be
 -- absent: that comes at an opening alone.
 pub record ClosesOnFault {S H T : Type 0} (old new : Bench S H)
@@ -193,19 +220,20 @@ module _ {S H T : Type 0} (s : StoreGhosts S) (h : ShelfGhosts H) (old new : Ben
   pub record LooksOn : Type 0 where
     pub stays : OnOk result (progress_of new ≡ progress_of old)
     pub does : h.honest (shelf_of old) → DiskKept s (registry_of new)
-        → OnOk result (LookDoes s h.view h.size (registry_of old) (registry_of new)
+        → OnOk result (LookDoes s h (registry_of old) (registry_of new)
         (shelf_of old) (shelf_of new))
     pub leaves : h.honest (shelf_of old) → DiskKept s (registry_of new)
-        → LookLeaves s h.view h.size (registry_of old) (registry_of new)
-        (shelf_of old) (shelf_of new)
+        → LookLeaves s h (registry_of old) (registry_of new) (shelf_of old) (shelf_of new)
     pub store : Reads s (registry_of old) (registry_of new)
     pub only : ReadsOnly h (shelf_of old) (shelf_of new)
     pub disk : TellsDisk h (shelf_of old) (shelf_of new) result
 
-  -- A call that carries out what is pending reports the disk only if that failed, wherever the
-  -- providers of its intents are at hand.
+  -- A call that carries out what is pending leaves the registry, and reports the disk only if that
+  -- failed, wherever the providers of its intents are at hand.
   pub record CarriesOut : Type 0 where
     pub keep : Keep s h (registry_of old) (registry_of new) (shelf_of old) (shelf_of new)
+    pub registry : registry_of new ≡ registry_of old
+    pub not_store : IsErrOf result Store → ⊥
     pub unreadable : IsErrOf result Unreadable → ⊥
     pub disk : (work : Work) → progress_of old ≡ Pending work
         → AreAtHand (h.size (shelf_of old)) work.intents.items
@@ -245,10 +273,12 @@ pub record RunsOnce {S H : Type 0} (s : StoreGhosts S) (h : ShelfGhosts H) (old 
       → HasTables s (registry_of old) t → AreRecordsOf t r
       → TellsDisk h (shelf_of old) (shelf_of new) result
 
--- A call that settles writes the registry alone, and its faults are want of memory and the store's.
+-- A call that settles writes the registry alone, and its faults are want of memory and the store's:
+-- on a disk that didn't fail, without a limit on steps, want of memory alone.
 pub record Settles {S H T : Type 0} (s : StoreGhosts S) (old new : Bench S H)
     (result : Result T BenchFault) : Type 0 where
   pub shelf : shelf_of new ≡ shelf_of old
+  pub store : TellsStore s (registry_of old) (registry_of new) result
   pub unreadable : IsErrOf result Unreadable → ⊥
   pub disk : IsErrOf result Disk → ⊥
   pub clean : WasClean s (registry_of old) (registry_of new)

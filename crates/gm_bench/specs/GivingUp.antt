@@ -5,9 +5,8 @@ use Rattle.sqlite_trees.specs.declared.store.Store.{Ghosts}
 use Rattle.sqlite_catalog.specs.Listing.{IsSound}
 use Rattle.sqlite.specs.Held.{Held}
 use Rattle.sqlite.specs.Tree.{Trees}
-use Rattle.gm_metadata.specs.Images.{Image, Sizes}
+use Rattle.gm_metadata.specs.Images.{Image}
 use Rattle.gm_shelf.specs.declared.shelf.Shelf.{Ghosts as ShelfGhosts}
-use Rattle.gm_shelf.specs.Disk.{View}
 use Rattle.gm_state.specs.declared.intents.Intent.{Intent}
 use Rattle.gm_state.specs.declared.intents.Reply.TheVariants.{Plain}
 use Rattle.gm_state.specs.Readable.{AreReadable}
@@ -56,57 +55,57 @@ abbrev pub IsReady : {S H : Type 0} → Without S H → Type 0
 IsReady (Opened b answer) = progress_of b ≡ Ready
 IsReady (Refused why store shelf) = Unit {0}
 
-module _ {S H : Type 0} (g : Ghosts S) (view : H → View) (size : H → Sizes) (store : Held S)
+module _ {S H : Type 0} (g : Ghosts S) (j : ShelfGhosts H) (store : Held S)
     (h : H) (key p : List ℕ) where
   -- The registry is opened, and the loss is committed, of a mirror, with these intents taken out:
   -- it was stopped at its commit, or after that, or it is carried out.
   pub record LeavesLost (s : Held S) (k : H) : Type 0 where
     pub registry : Held S
-    pub opened : IsOpening g view size store registry
-    pub opening : OpenLeaves g view size store registry h h
+    pub opened : IsOpening g j store registry
+    pub opening : OpenLeaves g j store registry h h
     pub mirror : List ℕ
     pub gone : List Intent
     pub committing :
-        (WithoutLeaves g view size store registry s h (loss_call key mirror p) p gone × (k ≡ h))
+        (WithoutLeaves g j store registry s h (loss_call key mirror p) p gone × (k ≡ h))
         ⊎ ((mid : Held S)
-        × WithoutLeaves g view size store registry mid h (loss_call key mirror p) p gone
-        × WithoutCarries g view size store mid s h k (loss_call key mirror p) p gone)
+        × WithoutLeaves g j store registry mid h (loss_call key mirror p) p gone
+        × WithoutCarries g j store mid s h k (loss_call key mirror p) p gone)
 
   -- that, or no more than what any opening leaves
   abbrev pub GivesUp : Held S → H → Type 0
-  GivesUp s k = OpenLeaves g view size store s h k ⊎ LeavesLost s k
+  GivesUp s k = OpenLeaves g j store s h k ⊎ LeavesLost s k
 
   -- nothing is committed unless the loss is answered as done
   abbrev pub LeavesUndone : Without S H → Type 0
   LeavesUndone (Opened b (Done n reply)) = Unit {0}
   LeavesUndone (Opened b (Repeated n reply)) =
-      OpenLeaves g view size store (registry_of b) h (shelf_of b)
+      OpenLeaves g j store (registry_of b) h (shelf_of b)
   LeavesUndone (Opened b (NotDone why)) = Unit {0}
-  LeavesUndone (Refused why s k) = OpenLeaves g view size store s h k
+  LeavesUndone (Refused why s k) = OpenLeaves g j store s h k
 
   -- this image is lacking, and nothing is committed
   abbrev pub LacksImage : Held S → H → List ℕ → Type 0
-  LacksImage s k q = OpenLeaves g view size store s h k
-      × ((away : Image) (u w : World) → (left : IsLeft g view size store h away u w)
-      → IsLacking w left.recovers.intents left.recovers.bytes key p (size h) q)
+  LacksImage s k q = OpenLeaves g j store s h k
+      × ((away : Image) (u w : World) → (left : IsLeft g j store h away u w)
+      → IsLacking w left.recovers.intents left.recovers.bytes key p (j.size h) q)
 
   -- The loss is done under the next number, or was before, and what was pending is carried out; or
   -- it is refused. The bench counts the intents that were pending.
   abbrev pub AnswersLoss : Without S H → Type 0
   AnswersLoss (Opened b (Done n reply)) =
       (m : List ℕ) × (gone : List Intent)
-      × WithoutDoes g view size store (registry_of b) h (shelf_of b) (loss_call key m p) p gone
-      × ((away : Image) (u w : World) → (left : IsLeft g view size store h away u w)
+      × WithoutDoes g j store (registry_of b) h (shelf_of b) (loss_call key m p) p gone
+      × ((away : Image) (u w : World) → (left : IsLeft g j store h away u w)
       → (n ≡ length w.answered + 1) × (reply ≡ Plain)
       × (redone_of b ≡ length left.recovers.intents))
   AnswersLoss (Opened b (Repeated n reply)) =
-      (away : Image) (u w : World) → (left : IsLeft g view size store h away u w)
+      (away : Image) (u w : World) → (left : IsLeft g j store h away u w)
       → ((a : Answered) × IsKeptLoss w key p a × (a.number ≡ n) × (a.reply ≡ reply))
       × (redone_of b ≡ length left.recovers.intents)
-      × IsAt g view size (registry_of b) (shelf_of b) away [] [] w w
+      × IsAt g j (registry_of b) (shelf_of b) away [] [] w w
   AnswersLoss (Opened b (NotDone why)) = ⊥
   AnswersLoss (Refused why s k) =
-      (away : Image) (u w : World) → (left : IsLeft g view size store h away u w)
+      (away : Image) (u w : World) → (left : IsLeft g j store h away u w)
       → IsRefusedLoss w left.recovers.intents key p why
 
 -- The store has tables of a state, or none, with these intents pending: few enough that those of a
@@ -193,9 +192,9 @@ module _ {S H : Type 0} (s : Ghosts S) (h : ShelfGhosts H) (store : Held S) (she
   -- what is answered of the loss
   pub record IsOpenedWithout (it : Without S H) : Type 0 where
     pub answers : h.honest shelf → IsOpen s store → DiskKept s (store_behind it)
-        → AnswersLoss s h.view h.size store shelf key p it
+        → AnswersLoss s h store shelf key p it
     pub undone : h.honest shelf → IsOpen s store → DiskKept s (store_behind it)
-        → LeavesUndone s h.view h.size store shelf key p it
+        → LeavesUndone s h store shelf key p it
     pub ready : IsReady it
     pub refused : StaysRefused s store shelf it
 
@@ -205,7 +204,7 @@ module _ {S H : Type 0} (s : Ghosts S) (h : ShelfGhosts H) (store : Held S) (she
   -- a loss, or has other tables. F5 and F6 leave both media as they were.
   pub record IsUnopenedWithout (e : OpenFault S H) : Type 0 where
     pub lacks : h.honest shelf → IsOpen s store → DiskKept s e.store → (q : List ℕ)
-        → e.fault ≡ Absent q → LacksImage s h.view h.size store shelf key p e.store e.shelf q
+        → e.fault ≡ Absent q → LacksImage s h store shelf key p e.store e.shelf q
     pub untouched : IsBeforeWrites e.fault → AreUntouched s store shelf e.store e.shelf
     pub disk : IsOpen s store → DiskKept s e.store → e.fault ≡ Disk
         → (t : Tables) → IsStored (stored s store) t

@@ -4,6 +4,7 @@ pub mod Benches
 pub mod Calls
 pub mod Faults
 pub mod GivingUp
+pub mod HandedIn
 pub mod Leading
 pub mod KeptCommands
 pub mod Losing

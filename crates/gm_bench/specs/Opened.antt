@@ -14,7 +14,7 @@ use Rattle.gm_rows.specs.ReadableTables.{AreTablesOf}
 use Rattle.gm_rows.specs.Schema.{first_schema, registry_schema}
 use Rattle.gm_registry.specs.Opening.{IsCarriedOver, IsForeign, IsOpenable}
 use Rattle.gm_registry.specs.Opens.{IsStored}
-use Rattle.gm_registry.specs.Registry.{DiskKept, HasTables, IsOpen, IsRegistry, LeavesAlone, MayCarryOver, StoreFailed, stored}
+use Rattle.gm_registry.specs.Registry.{DiskKept, HasTables, IsOpen, IsRegistry, LeavesAlone, MayCarryOver, Reads, StoreFailed, stored}
 use Rattle.gm_bench.specs.declared.bench.Bench.{Bench}
 use Rattle.gm_bench.specs.declared.bench.OpenFault.{OpenFault}
 use Rattle.gm_bench.specs.declared.fault.BenchFault.{BenchFault}
@@ -23,7 +23,7 @@ use Rattle.gm_bench.specs.declared.media.Media.{Media}
 use Rattle.gm_bench.specs.declared.phase.Progress.TheVariants.{Ready}
 use Rattle.gm_bench.specs.Benches.{progress_of, redone_of, registry_of, shelf_of}
 use Rattle.gm_bench.specs.Calls.{TellsDisk}
-use Rattle.gm_bench.specs.Faults.{IsBeforeWrites}
+use Rattle.gm_bench.specs.Faults.{IsBeforeWrites, IsOfRegistry}
 use Rattle.gm_bench.specs.Owed.{IsLeft, OpenDoes}
 use Rattle.gm_bench.specs.Presence.{first_absent}
 
@@ -47,6 +47,27 @@ pub record TellsOfTables {S H T : Type 0} (s : StoreGhosts S) (h : ShelfGhosts H
       → (t : Tables) (r : Records) (ts : List Intent)
       (bytes : List (List ℕ)) → HasTables s old.registry t → AreTablesOf t r ts bytes → ⊥
   pub closed : IsErrOf result Closed → ⊥
+
+-- All that the registry holds is loaded: it is only read, and the shelf stays. F6 only if the
+-- tables don't say a state with readable intents, and Store only if the store failed.
+pub record LoadsOnly {S H T : Type 0} (s : StoreGhosts S) (old new : Media S H)
+    (result : Result T BenchFault) : Type 0 where
+  pub unreadable : DiskKept s new.registry → IsErrOf result Unreadable
+      → (t : Tables) (r : Records) (ts : List Intent)
+      (bytes : List (List ℕ)) → HasTables s old.registry t → AreTablesOf t r ts bytes → ⊥
+  pub store : DiskKept s new.registry → IsErrOf result Store
+      → IsRegistry s old.registry → StoreFailed s old.registry new.registry
+  pub untouched : IsRegistry s old.registry → LeavesAlone s old.registry new.registry
+  pub fault : IfErr result IsOfRegistry
+  pub reads : Reads s old.registry new.registry
+  pub shelf : new.shelf ≡ old.shelf
+
+-- F5 comes before anything is written, exactly if an image isn't there that the intents need.
+pub record ChecksImages {S H T : Type 0} (h : ShelfGhosts H) (old new : Media S H)
+    (r : Records) (ts : List Intent) (result : Result T BenchFault) : Type 0 where
+  pub absent : (p : List ℕ) → IsErrOf result (Absent p)
+      → (first_absent r (h.size old.shelf) ts ≡ Some p) × (new ≡ old)
+  pub there : OnOk result (first_absent r (h.size old.shelf) ts ≡ None)
 
 -- A fault before anything is written leaves the shelf, and a registry whatever its rows hold.
 pub record StaysBefore {S H T : Type 0} (s : StoreGhosts S) (old new : Media S H)
@@ -74,9 +95,9 @@ module _ {S H : Type 0} (s : StoreGhosts S) (h : ShelfGhosts H) (store : Held S)
   pub record IsOpened (b : Bench S H) : Type 0 where
     pub ready : progress_of b ≡ Ready
     pub does : h.honest shelf → IsOpen s store → DiskKept s (registry_of b)
-        → OpenDoes s h.view h.size store (registry_of b) shelf (shelf_of b)
+        → OpenDoes s h store (registry_of b) shelf (shelf_of b)
     pub redone : h.honest shelf → IsOpen s store → DiskKept s (registry_of b)
-        → (away : Image) (u w : World) → (left : IsLeft s h.view h.size store shelf away u w)
+        → (away : Image) (u w : World) → (left : IsLeft s h store shelf away u w)
         → redone_of b ≡ length left.recovers.intents
     pub there : IsOpen s store → DiskKept s (registry_of b)
         → (t : Tables) (r : Records) (ts : List Intent)

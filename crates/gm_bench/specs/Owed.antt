@@ -3,8 +3,8 @@
 use Rattle.std.specs.Prelude.{◌≡◌, ◌⊎◌, ℕ, List, []}
 use Rattle.sqlite_trees.specs.declared.store.Store.{Ghosts}
 use Rattle.sqlite.specs.Held.{Held}
-use Rattle.gm_metadata.specs.Images.{Image, Sizes}
-use Rattle.gm_shelf.specs.Disk.{View}
+use Rattle.gm_metadata.specs.Images.{Image}
+use Rattle.gm_shelf.specs.declared.shelf.Shelf.{Ghosts as ShelfGhosts}
 use Rattle.gm_commands.specs.declared.command.Command.{Command}
 use Rattle.gm_state.specs.declared.intents.Reply.{Reply}
 use Rattle.gm_state.specs.World.{World, present}
@@ -23,49 +23,49 @@ use Rattle.gm_state.specs.Rows.{Tables}
 
 -- What stands between a call's start, with the registry r and the shelf h, and its end, with s and
 -- k.
-module _ {S H : Type 0} (g : Ghosts S) (view : H → View) (size : H → Sizes) where
+module _ {S H : Type 0} (g : Ghosts S) (j : ShelfGhosts H) where
   -- a command that is handed in at rest, or after one that was carried out: what a stop leaves, and
   -- what it is answered
   abbrev pub AcceptLeaves : Waiting → Held S → Held S → H → H → List ℕ → Command → Type 0
   AcceptLeaves waiting r s h k key c =
       (away : Image) (ts : List Intent) (bytes : List (List ℕ)) (v u : World)
-      → IsCarriedOut g view size r h away ts bytes v u → WaitsFor waiting ts bytes
-      → LeavesStep g view size r s h k away v u key c
+      → IsCarriedOut g j r h away ts bytes v u → WaitsFor waiting ts bytes
+      → LeavesStep g j r s h k away v u key c
 
   abbrev pub AcceptAnswers : Waiting → Held S → Held S → H → H → List ℕ → Command → Accepted
       → Type 0
   AcceptAnswers waiting r s h k key c a =
       (away : Image) (ts : List Intent) (bytes : List (List ℕ)) (v u : World)
-      → IsCarriedOut g view size r h away ts bytes v u → WaitsFor waiting ts bytes
-      → IsAnswered g view size s k away ts bytes v u key c a
+      → IsCarriedOut g j r h away ts bytes v u → WaitsFor waiting ts bytes
+      → IsAnswered g j s k away ts bytes v u key c a
 
   -- work that is carried out: what a stop leaves, and that the shelf is then the world's
   abbrev pub ApplyLeaves : Held S → H → H → Work → Type 0
   ApplyLeaves r h k work =
-      (away : Image) (u w : World) → IsAtWork g view size r h away work u w
-      → LeavesOnly g view size r r h k away u w
+      (away : Image) (u w : World) → IsAtWork g j r h away work u w
+      → LeavesOnly g j r r h k away u w
 
   abbrev pub ApplyDoes : Held S → H → H → Work → Type 0
   ApplyDoes r h k work =
-      (away : Image) (u w : World) → IsAtWork g view size r h away work u w
-      → IsAtWork g view size r k away work u w × IsShelfOf (view k) w (size k)
+      (away : Image) (u w : World) → IsAtWork g j r h away work u w
+      → IsAtWork g j r k away work u w × IsShelfOf (j.view k) w (j.size k)
 
   -- work that is settled: what a stop leaves, and that the bench is then at rest
   abbrev pub SettleLeaves : Held S → Held S → H → Work → Type 0
   SettleLeaves r s h work =
-      (away : Image) (u w : World) → IsAtWork g view size r h away work u w
-      → IsShelfOf (view h) w (size h)
-      → LeavesOnly g view size r s h h away u w
+      (away : Image) (u w : World) → IsAtWork g j r h away work u w
+      → IsShelfOf (j.view h) w (j.size h)
+      → LeavesOnly g j r s h h away u w
 
   abbrev pub SettleDoes : Held S → Held S → H → Work → Type 0
   SettleDoes r s h work =
-      (away : Image) (u w : World) → IsAtWork g view size r h away work u w
-      → IsShelfOf (view h) w (size h)
-      → IsAt g view size s h away [] [] w w
+      (away : Image) (u w : World) → IsAtWork g j r h away work u w
+      → IsShelfOf (j.view h) w (j.size h)
+      → IsAt g j s h away [] [] w w
 
   -- some work is pending that leads from u to w
   abbrev pub HasWork : Held S → H → Image → World → World → Type 0
-  HasWork r h away u w = (work : Work) × IsAtWork g view size r h away work u w
+  HasWork r h away u w = (work : Work) × IsAtWork g j r h away work u w
 
   -- A stop within a command that is carried out: it is accepted at some point, until which what led
   -- from v to u still does, or the world becomes that of the command's step. At that point the step
@@ -74,29 +74,29 @@ module _ {S H : Type 0} (g : Ghosts S) (view : H → View) (size : H → Sizes) 
       (c : Command) : Type 0 where
     pub registry : Held S
     pub shelf : H
-    pub sizes : size shelf ≡ size h
-    pub accepting : LeavesStep g view size r registry h shelf away v u key c
+    pub sizes : j.size shelf ≡ j.size h
+    pub accepting : LeavesStep g j r registry h shelf away v u key c
     pub carrying :
         ((registry ≡ s) × (shelf ≡ k))
         ⊎ ((w : World) × (reply : Reply) × Step u key c w reply
         × HasWork registry shelf away u w
-        × LeavesOnly g view size registry s shelf k away u w)
+        × LeavesOnly g j registry s shelf k away u w)
 
   -- a command that is handed in at rest, carried out and settled
   abbrev pub RunLeaves : Held S → Held S → H → H → List ℕ → Command → Type 0
   RunLeaves r s h k key c =
-      (away : Image) (u : World) → IsAt g view size r h away [] [] u u
+      (away : Image) (u : World) → IsAt g j r h away [] [] u u
       → LeavesRun r s h k away u u key c
 
   abbrev pub RunAnswers : Held S → Held S → H → H → List ℕ → Command → Answer → Type 0
   RunAnswers r s h k key c a =
-      (away : Image) (u : World) → IsAt g view size r h away [] [] u u
-      → IsRun g view size s k away u key c a
+      (away : Image) (u : World) → IsAt g j r h away [] [] u u
+      → IsRun g j s k away u key c a
 
   -- The store and the shelf before an opening lead to w.
   pub record IsLeft (store : Held S) (h : H) (away : Image) (u w : World) : Type 0 where
-    pub sizes : present w ≡ size h
-    pub recovers : Recovers (stored g store) (size h) away (view h).may_leave u w
+    pub sizes : present w ≡ j.size h
+    pub recovers : Recovers (stored g store) (j.size h) away (j.view h).may_leave u w
 
   -- The registry is opened: a crash finds the store as it was, or a registry with its tables; and
   -- the registry has these tables.
@@ -111,25 +111,25 @@ module _ {S H : Type 0} (g : Ghosts S) (view : H → View) (size : H → Sizes) 
     pub registry : Held S
     pub opened : IsOpening store registry ⊎ ((registry ≡ s) × (k ≡ h))
     pub opening : (away : Image) (u w : World) → IsLeft store h away u w
-        → LeavesOnly g view size store registry h h away u w
+        → LeavesOnly g j store registry h h away u w
     pub carrying : (away : Image) (u w : World) → IsLeft store h away u w
-        → LeavesOnly g view size registry s h k away u w
+        → LeavesOnly g j registry s h k away u w
 
   -- after an opening the bench is at rest in the world that was left
   abbrev pub OpenDoes : Held S → Held S → H → H → Type 0
   OpenDoes store s h k = (away : Image) (u w : World) → IsLeft store h away u w
-      → IsAt g view size s k away [] [] w w
+      → IsAt g j s k away [] [] w w
 
   -- A look: the tables stay, a crash leaves no image that it couldn't leave before, and the sizes
   -- stay.
   pub record LookDoes (r s : Held S) (h k : H) : Type 0 where
     pub tables : (t : Tables) → HasTables g r t → HasTables g s t
-    pub images : (x : Image) → (view k).may_leave x → (view h).may_leave x
-    pub sizes : size k ≡ size h
+    pub images : (x : Image) → (j.view k).may_leave x → (j.view h).may_leave x
+    pub sizes : j.size k ≡ j.size h
 
   -- what a look leaves that is stopped leads on as before
   abbrev pub LookLeaves : Held S → Held S → H → H → Type 0
   LookLeaves r s h k =
       (away : Image) (ts : List Intent) (bytes : List (List ℕ)) (u w : World)
-      → IsAt g view size r h away ts bytes u w
-      → LeavesOnly g view size r s h k away u w
+      → IsAt g j r h away ts bytes u w
+      → LeavesOnly g j r s h k away u w

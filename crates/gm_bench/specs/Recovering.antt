@@ -4,6 +4,7 @@ use Rattle.sqlite_trees.specs.declared.store.Store.{Ghosts}
 use Rattle.sqlite.specs.Tree.{Trees}
 use Rattle.sqlite.specs.Held.{Held}
 use Rattle.gm_metadata.specs.Images.{Image, Sizes, SameThere}
+use Rattle.gm_shelf.specs.declared.shelf.Shelf.{Ghosts as ShelfGhosts}
 use Rattle.gm_shelf.specs.Disk.{View}
 use Rattle.gm_state.specs.declared.intents.Intent.{Intent}
 use Rattle.gm_state.specs.declared.intents.Intent.TheVariants.{Meta}
@@ -39,15 +40,15 @@ pub record Cover (part all : Records) (ts : List Intent) : Type 0 where
 abbrev pub IsShelfOf : View → World → Sizes → Type 0
 IsShelfOf v w size = (x : Image) → v.may_leave x → SameThere size x w.shelf
 
-module _ {S H : Type 0} (g : Ghosts S) (view : H → View) (size : H → Sizes) where
+module _ {S H : Type 0} (g : Ghosts S) (j : ShelfGhosts H) where
   -- The registry holds tables with these intents and bytes, and with each image that a crash may
   -- leave of the shelf they lead to w.
   pub record IsFound (r : Held S) (h : H) (away : Image) (ts : List Intent)
       (bytes : List (List ℕ)) (u w : World) : Type 0 where
     pub tables : Tables
     pub has : HasTables g r tables
-    pub sizes : present w ≡ size h
-    pub leads : AllLead tables ts bytes (size h) away (view h).may_leave u w
+    pub sizes : present w ≡ j.size h
+    pub leads : AllLead tables ts bytes (j.size h) away (j.view h).may_leave u w
 
   -- The registry holds tables with these intents, whose providers are on the shelf, and these
   -- bytes; and with each image that a crash may leave of the shelf they lead to w.
@@ -55,9 +56,9 @@ module _ {S H : Type 0} (g : Ghosts S) (view : H → View) (size : H → Sizes) 
       (bytes : List (List ℕ)) (u w : World) : Type 0 where
     pub tables : Tables
     pub has : HasTables g r tables
-    pub sizes : present w ≡ size h
-    pub at_hand : (t : Intent) → Has ts t → IsAtHand (size h) t
-    pub leads : AllLead tables ts bytes (size h) away (view h).may_leave u w
+    pub sizes : present w ≡ j.size h
+    pub at_hand : (t : Intent) → Has ts t → IsAtHand (j.size h) t
+    pub leads : AllLead tables ts bytes (j.size h) away (j.view h).may_leave u w
 
   -- The same, and the images hold what the intents say already: these alone are still to be taken
   -- out. A bench at rest is one of these, without any intent.
@@ -65,10 +66,10 @@ module _ {S H : Type 0} (g : Ghosts S) (view : H → View) (size : H → Sizes) 
       (bytes : List (List ℕ)) (u w : World) : Type 0 where
     pub tables : Tables
     pub has : HasTables g r tables
-    pub sizes : present w ≡ size h
-    pub at_hand : (t : Intent) → Has ts t → IsAtHand (size h) t
-    pub leads : AllLead tables ts bytes (size h) away (view h).may_leave u w
-    pub shelf : IsShelfOf (view h) w (size h)
+    pub sizes : present w ≡ j.size h
+    pub at_hand : (t : Intent) → Has ts t → IsAtHand (j.size h) t
+    pub leads : AllLead tables ts bytes (j.size h) away (j.view h).may_leave u w
+    pub shelf : IsShelfOf (j.view h) w (j.size h)
 
   -- The bench is at a world to which this work leads, and the work's part of the records says what
   -- its intents need.
@@ -80,5 +81,6 @@ module _ {S H : Type 0} (g : Ghosts S) (view : H → View) (size : H → Sizes) 
   -- leave at the call's end. Every such pair leads to w.
   pub record LeavesOnly (r s : Held S) (h k : H) (away : Image) (u w : World) : Type 0 where
     pub within : (db : Trees) → CrashLeaves g r db
-        → Recovers db (size h) away ((view k).left_since (view h).moment) u w
-    pub end : (db : Trees) → CrashLeaves g s db → Recovers db (size h) away (view k).may_leave u w
+        → Recovers db (j.size h) away ((j.view k).left_since (j.view h).moment) u w
+    pub end : (db : Trees) → CrashLeaves g s db
+        → Recovers db (j.size h) away (j.view k).may_leave u w

@@ -2,8 +2,8 @@
 use Rattle.std.specs.Prelude.{ℕ, List, []}
 use Rattle.sqlite_trees.specs.declared.store.Store.{Ghosts}
 use Rattle.sqlite.specs.Held.{Held}
-use Rattle.gm_metadata.specs.Images.{Image, Sizes}
-use Rattle.gm_shelf.specs.Disk.{View}
+use Rattle.gm_metadata.specs.Images.{Image}
+use Rattle.gm_shelf.specs.declared.shelf.Shelf.{Ghosts as ShelfGhosts}
 use Rattle.gm_commands.specs.declared.command.Command.{Command}
 use Rattle.gm_state.specs.World.{World}
 use Rattle.gm_rules.specs.AbstractCalls as run
@@ -19,8 +19,8 @@ answer_of (Refused n) = run.Refused n
 
 -- The answer is the abstract bench's, and the bench is at rest in the world that it reaches by the
 -- call.
-pub record IsRun {S H : Type 0} (g : Ghosts S) (view : H → View) (size : H → Sizes) (r : Held S)
+pub record IsRun {S H : Type 0} (g : Ghosts S) (j : ShelfGhosts H) (r : Held S)
     (h : H) (away : Image) (u : World) (key : List ℕ) (c : Command) (a : Answer) : Type 0 where
   pub world : World
   pub calls : run.Calls u (record { key = key; command = c }) world (answer_of a)
-  pub at : IsAt g view size r h away [] [] world world
+  pub at : IsAt g j r h away [] [] world world

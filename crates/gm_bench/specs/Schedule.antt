@@ -5,7 +5,7 @@ use Rattle.sqlite_trees.specs.declared.store.Store.{Ghosts}
 use Rattle.sqlite.specs.Tree.{Trees}
 use Rattle.sqlite.specs.Held.{Held}
 use Rattle.gm_metadata.specs.Images.{Image, Sizes, Same, SameThere, same_label}
-use Rattle.gm_shelf.specs.Disk.{View}
+use Rattle.gm_shelf.specs.declared.shelf.Shelf.{Ghosts as ShelfGhosts}
 use Rattle.gm_state.specs.declared.intents.Reply.{Reply}
 use Rattle.gm_state.specs.Rows.{Tables}
 use Rattle.gm_state.specs.World.{World, present}
@@ -195,30 +195,30 @@ IsLeftIn db entry before after =
     ((after ≡ before) × HasCount db (length before))
     ⊎ ((after ≡ entry ∷ before) × HasCount db (length before + 1))
 
-module _ {S H : Type 0} (g : Ghosts S) (view : H → View) (size : H → Sizes) where
+module _ {S H : Type 0} (g : Ghosts S) (j : ShelfGhosts H) where
   -- one store and one shelf that a stop within a call leaves: the store is of the call's start and
   -- the image of any moment, or both are of its end
   abbrev pub IsStop : Held S → Held S → H → H → Trees → H → Type 0
   IsStop r s h k db l =
-      (size l ≡ size h)
-      × ((view l).may_leave (view l).seen)
-      × ((CrashLeaves g r db × ((x : Image) → (view l).may_leave x
-      → (view k).left_since (view h).moment x))
-      ⊎ (CrashLeaves g s db × ((x : Image) → (view l).may_leave x → (view k).may_leave x)))
+      (j.size l ≡ j.size h)
+      × ((j.view l).may_leave (j.view l).seen)
+      × ((CrashLeaves g r db × ((x : Image) → (j.view l).may_leave x
+      → (j.view k).left_since (j.view h).moment x))
+      ⊎ (CrashLeaves g s db × ((x : Image) → (j.view l).may_leave x → (j.view k).may_leave x)))
 
   -- one store and one shelf that a stop within a run leaves: within the accepting, or after it,
   -- while the step is carried out
   abbrev pub IsRunStop : (r s : Held S) (h k : H) (away : Image) (v u : World) (call : Call)
-      → LeavesRun g view size r s h k away v u call.key call.command → Trees → H → Type 0
+      → LeavesRun g j r s h k away v u call.key call.command → Trees → H → Type 0
   IsRunStop r s h k away v u call it db l =
       IsStop r it.registry h it.shelf db l
       ⊎ ((w : World) × (reply : Reply) × Step u call.key call.command w reply
-      × LeavesOnly g view size it.registry s it.shelf k away u w
+      × LeavesOnly g j it.registry s it.shelf k away u w
       × IsStop it.registry s it.shelf k db l)
 
   -- one store and one shelf that a stop within an opening leaves: while the registry is opened, or
   -- after that
-  abbrev pub IsOpenStop : (store s : Held S) (h k : H) → OpenLeaves g view size store s h k → Trees
+  abbrev pub IsOpenStop : (store s : Held S) (h k : H) → OpenLeaves g j store s h k → Trees
       → H → Type 0
   IsOpenStop store s h k it db l =
       IsStop store it.registry h h db l ⊎ IsStop it.registry s h k db l
@@ -228,14 +228,15 @@ module _ {S H : Type 0} (g : Ghosts S) (view : H → View) (size : H → Sizes) 
   pub record LeavesCommit (opened mid : Held S) (h : H) (away : Image) (u w : World) (call : Call)
       (provider : List ℕ) (gone : List Intent) : Type 0 where
     pub within : (db : Trees) → CrashLeaves g opened db
-        → Recovers db (size h) away ((view h).left_since (view h).moment) u w
-    pub end : (db : Trees) → CrashLeaves g mid db → Recovers db (size h) away (view h).may_leave u w
-        ⊎ ((v : World) × IsStepWithout w call provider gone v × (present v ≡ size h)
-        × Recovers db (size h) away (view h).may_leave u v)
+        → Recovers db (j.size h) away ((j.view h).left_since (j.view h).moment) u w
+    pub end : (db : Trees) → CrashLeaves g mid db
+        → Recovers db (j.size h) away (j.view h).may_leave u w
+        ⊎ ((v : World) × IsStepWithout w call provider gone v × (present v ≡ j.size h)
+        × Recovers db (j.size h) away (j.view h).may_leave u v)
 
   abbrev pub WithoutLeaves : Held S → Held S → Held S → H → Call → List ℕ → List Intent → Type 0
   WithoutLeaves store opened mid h call provider gone =
-      (away : Image) (u w : World) → (left : IsLeft g view size store h away u w)
+      (away : Image) (u w : World) → (left : IsLeft g j store h away u w)
       → (gone ≡ dropped provider left.recovers.intents)
       × LeavesCommit opened mid h away u w call provider gone
 
@@ -243,26 +244,26 @@ module _ {S H : Type 0} (g : Ghosts S) (view : H → View) (size : H → Sizes) 
   abbrev pub WithoutCarries : Held S → Held S → Held S → H → H → Call → List ℕ → List Intent
       → Type 0
   WithoutCarries store mid s h k call provider gone =
-      (away : Image) (u w : World) → (left : IsLeft g view size store h away u w)
+      (away : Image) (u w : World) → (left : IsLeft g j store h away u w)
       → (gone ≡ dropped provider left.recovers.intents) × (v : World)
-      × IsStepWithout w call provider gone v × (present v ≡ size h)
-      × LeavesOnly g view size mid s h k away u v
+      × IsStepWithout w call provider gone v × (present v ≡ j.size h)
+      × LeavesOnly g j mid s h k away u v
 
   -- at its end the bench is at rest in the world of the step
   abbrev pub WithoutDoes : Held S → Held S → H → H → Call → List ℕ → List Intent → Type 0
   WithoutDoes store s h k call provider gone =
-      (away : Image) (u w : World) → (left : IsLeft g view size store h away u w)
+      (away : Image) (u w : World) → (left : IsLeft g j store h away u w)
       → (gone ≡ dropped provider left.recovers.intents) × (v : World)
-      × IsStepWithout w call provider gone v × IsAt g view size s k away [] [] v v
+      × IsStepWithout w call provider gone v × IsAt g j s k away [] [] v v
 
   -- Providers went away or came back unchanged: those on the later shelf have their sizes, and
   -- whatever image is left of it, all providers hold what they hold with one that may be left of
   -- this shelf.
   pub record IsMove (all : Sizes) (h : H) (away : Image) (later : H) (beyond : Image) : Type 0 where
-    pub sizes : AreAmong (size later) all
-    pub images : (y : Image) → (view later).may_leave y
-        → (x : Image) × (view h).may_leave x × Same (whole (size later) beyond y)
-        (whole (size h) away x)
+    pub sizes : AreAmong (j.size later) all
+    pub images : (y : Image) → (j.view later).may_leave y
+        → (x : Image) × (j.view h).may_leave x × Same (whole (j.size later) beyond y)
+        (whole (j.size h) away x)
 
   -- the providers have these sizes for ever
   module _ (all : Sizes) where
@@ -272,43 +273,43 @@ module _ {S H : Type 0} (g : Ghosts S) (view : H → View) (size : H → Sizes) 
     Happens m (Accept_returned call answer s k) n =
         (r : Held S) × (h : H) × (waiting : Waiting) × IsDoneOver m.phase r h waiting
         × (n ≡ after_answer m call answer s k)
-        × AcceptAnswers g view size waiting r s h k call.key call.command answer
+        × AcceptAnswers g j waiting r s h k call.key call.command answer
     Happens m (Accept_stopped call s k db l) n =
         (r : Held S) × (h : H) × (waiting : Waiting) × IsDoneOver m.phase r h waiting
         × (left : List Entry) × (n ≡ record m { phase = Down db l; accepted = left })
         × IsLeftIn db (Handed_in call) m.accepted left
-        × AcceptLeaves g view size waiting r s h k call.key call.command × IsStop r s h k db l
+        × AcceptLeaves g j waiting r s h k call.key call.command × IsStop r s h k db l
     Happens m (Apply_returned k) n =
         (r : Held S) × (h : H) × (work : Work) × (m.phase ≡ Pending r h work)
-        × (n ≡ record m { phase = Applied r k work }) × ApplyDoes g view size r h k work
+        × (n ≡ record m { phase = Applied r k work }) × ApplyDoes g j r h k work
     Happens m (Apply_stopped k db l) n =
         (r : Held S) × (h : H) × (work : Work) × (m.phase ≡ Pending r h work)
-        × (n ≡ record m { phase = Down db l }) × ApplyLeaves g view size r h k work
+        × (n ≡ record m { phase = Down db l }) × ApplyLeaves g j r h k work
         × IsStop r r h k db l
     Happens m (Settle_returned s) n =
         (r : Held S) × (h : H) × (work : Work) × (m.phase ≡ Applied r h work)
-        × (n ≡ record m { phase = Ready s h }) × SettleDoes g view size r s h work
+        × (n ≡ record m { phase = Ready s h }) × SettleDoes g j r s h work
     Happens m (Settle_stopped s db l) n =
         (r : Held S) × (h : H) × (work : Work) × (m.phase ≡ Applied r h work)
-        × (n ≡ record m { phase = Down db l }) × SettleLeaves g view size r s h work
+        × (n ≡ record m { phase = Down db l }) × SettleLeaves g j r s h work
         × IsStop r s h h db l
     Happens m (Run_returned call answer s k) n =
         (r : Held S) × (h : H) × (m.phase ≡ Ready r h) × (n ≡ after_run m call answer s k)
-        × RunAnswers g view size r s h k call.key call.command answer
+        × RunAnswers g j r s h k call.key call.command answer
     Happens m (Run_stopped call s k db l) n =
         (r : Held S) × (h : H) × (m.phase ≡ Ready r h)
         × (left : List Entry) × (n ≡ record m { phase = Down db l; accepted = left })
         × IsLeftIn db (Handed_in call) m.accepted left
-        × (leaves : RunLeaves g view size r s h k call.key call.command)
-        × ((away : Image) (u : World) (at : IsAt g view size r h away [] [] u u)
+        × (leaves : RunLeaves g j r s h k call.key call.command)
+        × ((away : Image) (u : World) (at : IsAt g j r h away [] [] u u)
         → IsRunStop r s h k away u u call (leaves away u at) db l)
     Happens m (Look_returned s k) n =
         (r : Held S) × (h : H) × IsOpenOver m.phase r h
         × (n ≡ record m { phase = with_media m.phase s k })
-        × LookDoes g view size r s h k
+        × LookDoes g j r s h k
     Happens m (Look_stopped s k db l) n =
         (r : Held S) × (h : H) × IsOpenOver m.phase r h
-        × (n ≡ record m { phase = Down db l }) × LookLeaves g view size r s h k
+        × (n ≡ record m { phase = Down db l }) × LookLeaves g j r s h k
         × IsStop r s h k db l
     Happens m (Moved beyond later) n =
         (db : Trees) × (h : H) × (m.phase ≡ Down db h)
@@ -316,10 +317,10 @@ module _ {S H : Type 0} (g : Ghosts S) (view : H → View) (size : H → Sizes) 
         × IsMove all h m.away later beyond
     Happens m (Open_returned o s k) n =
         (h : H) × (m.phase ≡ Down (stored g o) h) × (n ≡ record m { phase = Ready s k })
-        × OpenDoes g view size o s h k
+        × OpenDoes g j o s h k
     Happens m (Open_stopped o s k db l) n =
         (h : H) × (m.phase ≡ Down (stored g o) h) × (n ≡ record m { phase = Down db l })
-        × (leaves : OpenLeaves g view size o s h k) × IsOpenStop o s h k leaves db l
+        × (leaves : OpenLeaves g j o s h k) × IsOpenStop o s h k leaves db l
     Happens m (Without_returned call p gone o s k) n =
         (h : H) × (m.phase ≡ Down (stored g o) h)
         × (n ≡ record m {
@@ -343,9 +344,9 @@ module _ {S H : Type 0} (g : Ghosts S) (view : H → View) (size : H → Sizes) 
     pub record IsStart (db : Trees) (h : H) (away : Image) (w : World) : Type 0 where
       pub empty : IsEmpty db
       pub new : IsNew all w
-      pub sizes : present w ≡ size h
-      pub shelf : (x : Image) → (view h).may_leave x
-          → SameThere w.size (whole (size h) away x) w.shelf
+      pub sizes : present w ≡ j.size h
+      pub shelf : (x : Image) → (j.view h).may_leave x
+          → SameThere w.size (whole (j.size h) away x) w.shelf
 
     -- the events, the newest first, lead to this from a start
     abbrev pub Runs : List (Event (Held S) H) → Now (Held S) H → Type 0
@@ -359,7 +360,7 @@ module _ {S H : Type 0} (g : Ghosts S) (view : H → View) (size : H → Sizes) 
     pub record AtRest (r : Held S) (h : H) (away : Image) (acc ack : List Entry) : Type 0 where
       pub world : World
       pub reached : Reached all acc world
-      pub at : IsAt g view size r h away [] [] world world
+      pub at : IsAt g j r h away [] [] world world
       pub told : Within ack acc
 
     -- the work that is pending leads to it, and no component claims on the way a sector that it
@@ -370,7 +371,7 @@ module _ {S H : Type 0} (g : Ghosts S) (view : H → View) (size : H → Sizes) 
       pub before : World
       pub reached : Reached all acc world
       pub last : IsLastStep all acc before world
-      pub at : IsAtWork g view size r h away work before world
+      pub at : IsAtWork g j r h away work before world
       pub told : Within ack acc
 
     -- whatever a stop left leads to it, from itself or from the world before the first command that
@@ -380,8 +381,8 @@ module _ {S H : Type 0} (g : Ghosts S) (view : H → View) (size : H → Sizes) 
       pub before : World
       pub reached : Reached all acc world
       pub last : IsButMoved before world ⊎ ArePending all acc before world
-      pub sizes : present world ≡ size h
-      pub recovers : Recovers db (size h) away (view h).may_leave before world
+      pub sizes : present world ≡ j.size h
+      pub recovers : Recovers db (j.size h) away (j.view h).may_leave before world
       pub told : Within ack acc
 
     -- what holds at each phase
@@ -389,5 +390,5 @@ module _ {S H : Type 0} (g : Ghosts S) (view : H → View) (size : H → Sizes) 
     Headline (Ready r h) away acc ack = AtRest r h away acc ack
     Headline (Pending r h work) away acc ack = OnTheWay r h away work acc ack
     Headline (Applied r h work) away acc ack =
-        (o : OnTheWay r h away work acc ack) × IsShelfOf (view h) o.world (size h)
+        (o : OnTheWay r h away work acc ack) × IsShelfOf (j.view h) o.world (j.size h)
     Headline (Down db h) away acc ack = Stopped db h away acc ack

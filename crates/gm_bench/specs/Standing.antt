@@ -3,8 +3,8 @@
 use Rattle.std.specs.Prelude.{◌≡◌, ◌⊎◌, ℕ, List, []}
 use Rattle.sqlite_trees.specs.declared.store.Store.{Ghosts}
 use Rattle.sqlite.specs.Held.{Held}
-use Rattle.gm_metadata.specs.Images.{Image, Sizes}
-use Rattle.gm_shelf.specs.Disk.{View}
+use Rattle.gm_metadata.specs.Images.{Image}
+use Rattle.gm_shelf.specs.declared.shelf.Shelf.{Ghosts as ShelfGhosts}
 use Rattle.gm_commands.specs.declared.command.Command.{Command}
 use Rattle.gm_state.specs.World.{World}
 use Rattle.gm_rules.specs.AbstractCalls as run
@@ -16,15 +16,15 @@ use Rattle.gm_bench.specs.Accepting.{LeavesStep}
 use Rattle.gm_bench.specs.Owed.{HasWork, LeavesRun}
 use Rattle.gm_bench.specs.Recovering.{IsAt, IsAtWork, IsShelfOf, LeavesOnly}
 
-module _ {S H : Type 0} (g : Ghosts S) (view : H → View) (size : H → Sizes) where
+module _ {S H : Type 0} (g : Ghosts S) (j : ShelfGhosts H) where
   -- A bench that is so far stands for the world u; v is the world before the command that is still
   -- to be settled, or u itself. One that failed stands for a world only if its media are at rest.
   abbrev pub Stands : Progress → Held S → H → Image → World → World → Type 0
-  Stands Ready r h away v u = (v ≡ u) × IsAt g view size r h away [] [] u u
+  Stands Ready r h away v u = (v ≡ u) × IsAt g j r h away [] [] u u
   Stands (Pending work) r h away v u = ⊥
   Stands (Applied work) r h away v u =
-      IsAtWork g view size r h away work v u × IsShelfOf (view h) u (size h)
-  Stands Failed r h away v u = (v ≡ u) × IsAt g view size r h away [] [] u u
+      IsAtWork g j r h away work v u × IsShelfOf (j.view h) u (j.size h)
+  Stands Failed r h away v u = (v ≡ u) × IsAt g j r h away [] [] u u
 
   -- A command was accepted and carried out, from r and h to s and k: a stop until some point leaves
   -- what led from v to u, or the step to w; at that point the step is pending, and after it what is
@@ -33,10 +33,10 @@ module _ {S H : Type 0} (g : Ghosts S) (view : H → View) (size : H → Sizes) 
       (c : Command) : Type 0 where
     pub registry : Held S
     pub shelf : H
-    pub sizes : size shelf ≡ size h
-    pub accepting : LeavesStep g view size r registry h shelf away v u key c
-    pub pending : HasWork g view size registry shelf away u w
-    pub carrying : LeavesOnly g view size registry s shelf k away u w
+    pub sizes : j.size shelf ≡ j.size h
+    pub accepting : LeavesStep g j r registry h shelf away v u key c
+    pub pending : HasWork g j registry shelf away u w
+    pub carrying : LeavesOnly g j registry s shelf k away u w
 
   -- What a command comes to that is handed in to a bench that stands for u, from r and h to s and
   -- k: the answer is the abstract bench's. If it is done, the bench stands for the world of the
@@ -48,10 +48,10 @@ module _ {S H : Type 0} (g : Ghosts S) (view : H → View) (size : H → Sizes) 
       × Carries r s h k away v u w key c × Stands p s k away u w
   IsHandedIn p r s h k away v u key c (Repeated n reply) =
       run.Calls u (record { key = key; command = c }) u (run.Repeated n reply)
-      × LeavesStep g view size r s h k away v u key c × Stands p s k away v u
+      × LeavesStep g j r s h k away v u key c × Stands p s k away v u
   IsHandedIn p r s h k away v u key c (Refused why) =
       run.Calls u (record { key = key; command = c }) u (run.Refused why)
-      × LeavesStep g view size r s h k away v u key c × Stands p s k away v u
+      × LeavesStep g j r s h k away v u key c × Stands p s k away v u
 
   -- A command was found repeated or refused, and then what waited was settled: a stop leaves what
   -- led from v to u.
@@ -59,13 +59,13 @@ module _ {S H : Type 0} (g : Ghosts S) (view : H → View) (size : H → Sizes) 
       (c : Command) : Type 0 where
     pub registry : Held S
     pub shelf : H
-    pub sizes : size shelf ≡ size h
-    pub accepting : LeavesStep g view size r registry h shelf away v u key c
-    pub settling : LeavesOnly g view size registry s shelf k away v u
+    pub sizes : j.size shelf ≡ j.size h
+    pub accepting : LeavesStep g j r registry h shelf away v u key c
+    pub settling : LeavesOnly g j registry s shelf k away v u
 
   -- a stop within a command that is handed in and then settled, or within the settling of the last
   -- one after it
   abbrev pub LeavesNext : Held S → Held S → H → H → Image → World → World → List ℕ → Command
       → Type 0
   LeavesNext r s h k away v u key c =
-      LeavesRun g view size r s h k away v u key c ⊎ SettlesAfter r s h k away v u key c
+      LeavesRun g j r s h k away v u key c ⊎ SettlesAfter r s h k away v u key c

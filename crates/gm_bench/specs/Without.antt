@@ -39,7 +39,7 @@ use Rattle.gm_bench.specs.Schedule.{IsStepWithout, LeavesCommit}
 use Rattle.gm_rules.specs.AbstractCalls.{Call}
 use Rattle.gm_changes.specs.Decides.{Changed}
 use Rattle.gm_metadata.specs.Images.{Image, Sizes}
-use Rattle.gm_shelf.specs.Disk.{View}
+use Rattle.gm_shelf.specs.declared.shelf.Shelf.{Ghosts as ShelfGhosts}
 use Rattle.sqlite.specs.Held.{Held}
 use Rattle.sqlite_trees.specs.declared.store.Store.{Ghosts}
 
@@ -187,11 +187,11 @@ IsLacking w ts bytes key p size q =
 abbrev pub loss_call : List ℕ → List ℕ → List ℕ → Call
 loss_call key n p = record { key = key; command = Lost n (p ∷ []) }
 
-module _ {S H : Type 0} (g : Ghosts S) (view : H → View) (size : H → Sizes) where
+module _ {S H : Type 0} (g : Ghosts S) (j : ShelfGhosts H) where
   -- the tables that are found, of which the loss was judged
   pub record HasJudged (r : Held S) (h : H) (key p : List ℕ) (loss : Loss) (away : Image)
       (ts : List Intent) (bytes : List (List ℕ)) (u w : World) : Type 0 where
-    pub found : IsFound g view size r h away ts bytes u w
+    pub found : IsFound g j r h away ts bytes u w
     pub judged : IsNewLoss w ts bytes key p loss
 
   -- it is committed under this number: the loss's intents lead to its step
@@ -199,25 +199,24 @@ module _ {S H : Type 0} (g : Ghosts S) (view : H → View) (size : H → Sizes) 
       → ℕ → Type 0
   IsLost end h away loss key p ts u w n =
       (v : World) × (step : IsStepWithout w (loss_call key loss.mirror p) p (dropped p ts) v)
-      × (step.reply ≡ loss.change.reply) × (n ≡ length w.answered + 1) × (present v ≡ size h)
-      × (loss.after ≡ v.state) × IsFound g view size end h away loss.intents.items loss.bytes.items
-      u v
+      × (step.reply ≡ loss.change.reply) × (n ≡ length w.answered + 1) × (present v ≡ j.size h)
+      × (loss.after ≡ v.state) × IsFound g j end h away loss.intents.items loss.bytes.items u v
 
-module _ {S H : Type 0} (g : Ghosts S) (view : H → View) (size : H → Sizes)
+module _ {S H : Type 0} (g : Ghosts S) (j : ShelfGhosts H)
     (Was : Image → List Intent → List (List ℕ) → World → World → Type 0) (call : Call) (p : List ℕ)
   where
     -- until its commit nothing is written to the shelf
     abbrev pub Commits : (start mid : Held S) → H → Type 0
     Commits start mid h = (away : Image) (ts : List Intent) (bytes : List (List ℕ)) (u w : World)
         → Was away ts bytes u w
-        → LeavesCommit g view size start mid h away u w call p (dropped p ts)
+        → LeavesCommit g j start mid h away u w call p (dropped p ts)
 
     -- after its commit, what a stop leaves leads to the step
     abbrev pub Carries : (mid end : Held S) (h k : H) → Type 0
     Carries mid end h k = (away : Image) (ts : List Intent) (bytes : List (List ℕ)) (u w : World)
         → Was away ts bytes u w
-        → (v : World) × IsStepWithout w call p (dropped p ts) v × (present v ≡ size h)
-        × LeavesOnly g view size mid end h k away u v
+        → (v : World) × IsStepWithout w call p (dropped p ts) v × (present v ≡ j.size h)
+        × LeavesOnly g j mid end h k away u v
 
     -- it was stopped at its commit, or after that
     abbrev pub LeavesLoss : (start end : Held S) (h k : H) → Type 0
@@ -230,13 +229,13 @@ module _ {S H : Type 0} (g : Ghosts S) (view : H → View) (size : H → Sizes)
     DoesLoss end k n reply = (away : Image) (ts : List Intent) (bytes : List (List ℕ)) (u w : World)
         → Was away ts bytes u w
         → (v : World) × (step : IsStepWithout w call p (dropped p ts) v) × (step.reply ≡ reply)
-        × (n ≡ length w.answered + 1) × IsAt g view size end k away [] [] v v
+        × (n ≡ length w.answered + 1) × IsAt g j end k away [] [] v v
 
 -- what was found of the loss, of these tables
-module _ {S H : Type 0} (g : Ghosts S) (view : H → View) (size : H → Sizes) where
+module _ {S H : Type 0} (g : Ghosts S) (j : ShelfGhosts H) where
   pub record IsLooked (r : Held S) (h : H) (key p : List ℕ) (looked : Looked) (away : Image)
       (ts : List Intent) (bytes : List (List ℕ)) (u w : World) : Type 0 where
-    pub found : IsFound g view size r h away ts bytes u w
+    pub found : IsFound g j r h away ts bytes u w
     pub state : looked.state ≡ w.state
     pub intents : looked.intents.items ≡ ts
     pub to_lay : looked.bytes.items ≡ bytes
@@ -246,16 +245,16 @@ module _ {S H : Type 0} (g : Ghosts S) (view : H → View) (size : H → Sizes) 
     -- nothing is committed, and what was pending may be carried out
     abbrev pub LeavesOpened : Type 0
     LeavesOpened = (away : Image) (ts : List Intent) (bytes : List (List ℕ)) (u w : World)
-        → IsFound g view size start h away ts bytes u w
-        → LeavesOnly g view size start end h k away u w
+        → IsFound g j start h away ts bytes u w
+        → LeavesOnly g j start end h k away u w
 
     -- that, or the loss is committed
     abbrev pub LeavesWithout : Type 0
     LeavesWithout = LeavesOpened
         ⊎ ((n : List ℕ) × (gone : List Intent)
         × ((away : Image) (ts : List Intent) (bytes : List (List ℕ)) (u w : World)
-        → IsFound g view size start h away ts bytes u w → gone ≡ dropped p ts)
-        × LeavesLoss g view size (IsFound g view size start h) (loss_call key n p) p start end h k)
+        → IsFound g j start h away ts bytes u w → gone ≡ dropped p ts)
+        × LeavesLoss g j (IsFound g j start h) (loss_call key n p) p start end h k)
 
     -- nothing is committed unless the loss is answered as done
     abbrev pub KeepsUndone : TakenUp → Type 0
@@ -268,23 +267,23 @@ module _ {S H : Type 0} (g : Ghosts S) (view : H → View) (size : H → Sizes) 
     abbrev pub LacksFirst : List ℕ → Type 0
     LacksFirst q = LeavesOpened
         × ((away : Image) (ts : List Intent) (bytes : List (List ℕ)) (u w : World)
-        → IsFound g view size start h away ts bytes u w → IsLacking w ts bytes key p (size h) q)
+        → IsFound g j start h away ts bytes u w → IsLacking w ts bytes key p (j.size h) q)
 
     -- what is answered, and how many intents were pending
     abbrev pub DoesWithout : TakenUp → Type 0
     DoesWithout (Carried (Done n reply) redone) =
         (m : List ℕ) × (gone : List Intent)
         × ((away : Image) (ts : List Intent) (bytes : List (List ℕ)) (u w : World)
-        → IsFound g view size start h away ts bytes u w → (gone ≡ dropped p ts)
+        → IsFound g j start h away ts bytes u w → (gone ≡ dropped p ts)
         × (redone ≡ length ts))
-        × DoesLoss g view size (IsFound g view size start h) (loss_call key m p) p end k n reply
+        × DoesLoss g j (IsFound g j start h) (loss_call key m p) p end k n reply
     DoesWithout (Carried (Repeated n reply) redone) =
         (away : Image) (ts : List Intent) (bytes : List (List ℕ)) (u w : World)
-        → IsFound g view size start h away ts bytes u w
+        → IsFound g j start h away ts bytes u w
         → ((a : Answered) × IsKeptLoss w key p a × (a.number ≡ n) × (a.reply ≡ reply))
-        × (redone ≡ length ts) × IsAt g view size end k away [] [] w w
+        × (redone ≡ length ts) × IsAt g j end k away [] [] w w
     DoesWithout (Carried (AnswerRefused why) redone) = ⊥
     DoesWithout (NotLost why) =
         (away : Image) (ts : List Intent) (bytes : List (List ℕ)) (u w : World)
-        → IsFound g view size start h away ts bytes u w
+        → IsFound g j start h away ts bytes u w
         → IsRefusedLoss w ts key p why

@@ -27,6 +27,7 @@ use crate::fault::BenchFault;
 use crate::media::Media;
 use crate::phase::Waiting;
 use crate::plan::Planned;
+use gm_apply::Watch;
 use gm_changes::Change;
 use gm_commands::{Command, is_key, words_of};
 use gm_refusals::CallRefusal;
@@ -71,16 +72,16 @@ impl<S: Alter, H: Shelf> Media<S, H> {
         ensures leaves { H.honest self.old.shelf → DiskKept S.Store self.new.registry
             → (away : Image) (ts : List Intent)
             (bytes : List (List ℕ)) (c : Command) (v u : World) → words.now ≡ words_of c
-            → IsCarriedOut S.Store H.view H.size self.old.registry self.old.shelf away ts bytes v u
+            → IsCarriedOut S.Store H.Shelf self.old.registry self.old.shelf away ts bytes v u
             → WaitsFor waiting ts bytes → IsPlanned u c planned → CanAnswer u key.now c
-            → LeavesStep S.Store H.view H.size self.old.registry self.new.registry
+            → LeavesStep S.Store H.Shelf self.old.registry self.new.registry
             self.old.shelf self.old.shelf away v u key.now c }
         ensures done { H.honest self.old.shelf → DiskKept S.Store self.new.registry
             → IfOk result (λ a. (away : Image) (ts : List Intent)
             (bytes : List (List ℕ)) (c : Command) (v u : World) → words.now ≡ words_of c
-            → IsCarriedOut S.Store H.view H.size self.old.registry self.old.shelf away ts bytes v u
+            → IsCarriedOut S.Store H.Shelf self.old.registry self.old.shelf away ts bytes v u
             → WaitsFor waiting ts bytes → IsPlanned u c planned → CanAnswer u key.now c
-            → IsAnswered S.Store H.view H.size self.new.registry self.old.shelf away
+            → IsAnswered S.Store H.Shelf self.new.registry self.old.shelf away
             ts bytes v u key.now c a) }
         ensures refused { Refuses S.Store self.old.registry self.new.registry result }
         // Of a change that fits the tables, `Store` comes only if the store failed.
@@ -107,29 +108,30 @@ impl<S: Alter, H: Shelf> Media<S, H> {
     }
 
     // Asks the rules, and writes what they make.
-    fn choose(
+    fn choose<W: Watch>(
         &mut self,
         alloc: Global,
         waiting: Waiting,
         key: &str,
         words: &str,
         command: &Command,
+        watch: &mut W,
     ) -> Result<Accepted, BenchFault>
         ensures leaves { H.honest self.old.shelf → DiskKept S.Store self.new.registry
             → (away : Image) (ts : List Intent)
             (bytes : List (List ℕ)) (v u : World) → words.now ≡ words_of command.now
-            → IsCarriedOut S.Store H.view H.size self.old.registry self.old.shelf away ts bytes v u
+            → IsCarriedOut S.Store H.Shelf self.old.registry self.old.shelf away ts bytes v u
             → WaitsFor waiting ts bytes
             → CanAnswer u key.now command.now
-            → LeavesStep S.Store H.view H.size self.old.registry self.new.registry
+            → LeavesStep S.Store H.Shelf self.old.registry self.new.registry
             self.old.shelf self.new.shelf away v u key.now command.now }
         ensures done { H.honest self.old.shelf → DiskKept S.Store self.new.registry
             → IfOk result (λ a. (away : Image) (ts : List Intent)
             (bytes : List (List ℕ)) (v u : World) → words.now ≡ words_of command.now
-            → IsCarriedOut S.Store H.view H.size self.old.registry self.old.shelf away ts bytes v u
+            → IsCarriedOut S.Store H.Shelf self.old.registry self.old.shelf away ts bytes v u
             → WaitsFor waiting ts bytes
             → CanAnswer u key.now command.now
-            → IsAnswered S.Store H.view H.size self.new.registry self.new.shelf away
+            → IsAnswered S.Store H.Shelf self.new.registry self.new.shelf away
             ts bytes v u key.now command.now a) }
         ensures fault { IfErr result IsOfCall }
         ensures rows { TellsOfCall S.Store H.Shelf self.old self.new result key.now words.now
@@ -137,38 +139,37 @@ impl<S: Alter, H: Shelf> Media<S, H> {
         ensures accepts { Accepts S.Store H.Shelf self.old self.new result
             (λ a. IsUndone (answer_of a)) }
     {
-        match self.ask(alloc, command)? {
+        match self.ask(alloc, command, watch)? {
             Ok(planned) => self.commit(waiting, planned, key, words),
             Err(refusal) => Ok(Accepted::Refused(CallRefusal::ByRules(refusal))),
         }
     }
 
     // Decides a command whose key is free.
-    fn decide(
+    fn decide<W: Watch>(
         &mut self,
         alloc: Global,
         waiting: Waiting,
         key: &str,
         words: &str,
         command: &Command,
+        watch: &mut W,
     ) -> Result<Accepted, BenchFault>
         ensures leaves { H.honest self.old.shelf → DiskKept S.Store self.new.registry
             → (away : Image) (ts : List Intent)
             (bytes : List (List ℕ)) (v u : World) → words.now ≡ words_of command.now
             → is_key key.now ≡ true → CommandFits command.now
-            → (at : IsCarriedOut S.Store H.view H.size self.old.registry self.old.shelf away
-            ts bytes v u)
+            → (at : IsCarriedOut S.Store H.Shelf self.old.registry self.old.shelf away ts bytes v u)
             → WaitsFor waiting ts bytes → IsFree at.tables key.now
-            → LeavesStep S.Store H.view H.size self.old.registry self.new.registry
+            → LeavesStep S.Store H.Shelf self.old.registry self.new.registry
             self.old.shelf self.new.shelf away v u key.now command.now }
         ensures done { H.honest self.old.shelf → DiskKept S.Store self.new.registry
             → IfOk result (λ a. (away : Image) (ts : List Intent)
             (bytes : List (List ℕ)) (v u : World) → words.now ≡ words_of command.now
             → is_key key.now ≡ true → CommandFits command.now
-            → (at : IsCarriedOut S.Store H.view H.size self.old.registry self.old.shelf away
-            ts bytes v u)
+            → (at : IsCarriedOut S.Store H.Shelf self.old.registry self.old.shelf away ts bytes v u)
             → WaitsFor waiting ts bytes → IsFree at.tables key.now
-            → IsAnswered S.Store H.view H.size self.new.registry self.new.shelf away
+            → IsAnswered S.Store H.Shelf self.new.registry self.new.shelf away
             ts bytes v u key.now command.now a) }
         ensures fault { IfErr result IsOfCall }
         ensures rows { TellsOfCall S.Store H.Shelf self.old self.new result key.now words.now
@@ -179,25 +180,26 @@ impl<S: Alter, H: Shelf> Media<S, H> {
         if self.is_full()? {
             return Ok(Accepted::Refused(CallRefusal::NoRoom));
         }
-        self.choose(alloc, waiting, key, words, command)
+        self.choose(alloc, waiting, key, words, command, watch)
     }
 
     // Answers a command whose key has the form of one.
-    fn answer(
+    fn answer<W: Watch>(
         &mut self,
         alloc: Global,
         waiting: Waiting,
         key: &str,
         words: &str,
         command: &Command,
+        watch: &mut W,
     ) -> Result<Accepted, BenchFault>
         ensures leaves { H.honest self.old.shelf → DiskKept S.Store self.new.registry
             → IsCall key.now words.now command.now
-            → AcceptLeaves S.Store H.view H.size waiting self.old.registry self.new.registry
+            → AcceptLeaves S.Store H.Shelf waiting self.old.registry self.new.registry
             self.old.shelf self.new.shelf key.now command.now }
         ensures done { H.honest self.old.shelf → DiskKept S.Store self.new.registry
             → IfOk result (λ a. IsCall key.now words.now command.now
-            → AcceptAnswers S.Store H.view H.size waiting self.old.registry self.new.registry
+            → AcceptAnswers S.Store H.Shelf waiting self.old.registry self.new.registry
             self.old.shelf self.new.shelf key.now command.now a) }
         ensures fault { IfErr result IsOfCall }
         ensures rows { TellsOfCall S.Store H.Shelf self.old self.new result key.now words.now
@@ -206,7 +208,7 @@ impl<S: Alter, H: Shelf> Media<S, H> {
             (λ a. IsUndone (answer_of a)) }
     {
         match self.registry.reply_of(key) {
-            Ok(None) => self.decide(alloc, waiting, key, words, command),
+            Ok(None) => self.decide(alloc, waiting, key, words, command, watch),
             Ok(Some((number, kept, reply))) => {
                 if kept.as_str() == words {
                     Ok(Accepted::Repeated(number, reply))
@@ -219,19 +221,21 @@ impl<S: Alter, H: Shelf> Media<S, H> {
     }
 
     /// Hands in a command under a key. It reads the shelf, and writes the registry alone: the
-    /// transaction that accepts the command settles what waits.
-    pub(crate) fn accept(
+    /// transaction that accepts the command settles what waits. The watch is told how far data are
+    /// compared, which `adopt` does.
+    pub(crate) fn accept<W: Watch>(
         &mut self,
         alloc: Global,
         waiting: Waiting,
         key: &str,
         command: &Command,
+        watch: &mut W,
     ) -> Result<Accepted, BenchFault>
         ensures leaves { H.honest self.old.shelf → DiskKept S.Store self.new.registry
-            → AcceptLeaves S.Store H.view H.size waiting self.old.registry self.new.registry
+            → AcceptLeaves S.Store H.Shelf waiting self.old.registry self.new.registry
             self.old.shelf self.new.shelf key.now command.now }
         ensures done { H.honest self.old.shelf → DiskKept S.Store self.new.registry
-            → IfOk result (AcceptAnswers S.Store H.view H.size waiting self.old.registry
+            → IfOk result (AcceptAnswers S.Store H.Shelf waiting self.old.registry
             self.new.registry self.old.shelf self.new.shelf key.now command.now) }
         ensures fault { IfErr result IsOfCall }
         ensures rows { TellsByRows S.Store H.Shelf self.old self.new result key.now command.now
@@ -243,7 +247,7 @@ impl<S: Alter, H: Shelf> Media<S, H> {
             return Ok(Accepted::Refused(CallRefusal::NoKey));
         }
         match words_of(alloc, command) {
-            Ok(words) => self.answer(alloc, waiting, key, &words, command),
+            Ok(words) => self.answer(alloc, waiting, key, &words, command, watch),
             Err(_) => Err(BenchFault::Memory),
         }
     }

@@ -46,9 +46,9 @@ impl<S: Alter, H: Shelf> Bench<S, H> {
     ) -> Result<Bench<S, H>, OpenFault<S, H>>
         requires { store.in_transaction ≡ false }
         ensures leaves { H.honest shelf → IsOpen S.Store store → MatchResult result
-            (λ b. DiskKept S.Store (registry_of b) → OpenLeaves S.Store H.view H.size
+            (λ b. DiskKept S.Store (registry_of b) → OpenLeaves S.Store H.Shelf
             store (registry_of b) shelf (shelf_of b))
-            (λ e. DiskKept S.Store e.store → OpenLeaves S.Store H.view H.size
+            (λ e. DiskKept S.Store e.store → OpenLeaves S.Store H.Shelf
             store e.store shelf e.shelf) }
         // Neither medium of a store with other tables is touched.
         ensures foreign { IsOpen S.Store store → IsForeign (stored S.Store store)

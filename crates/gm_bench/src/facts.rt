@@ -8,7 +8,7 @@ ghost use Rattle.gm_bench.specs.Calls.{Looks};
 
 use crate::adopt_scope::Compared;
 use crate::fault::BenchFault;
-use gm_apply::equal_sectors;
+use gm_apply::{Watch, equal_sectors};
 use gm_metadata::Label;
 use gm_refusals::{Fact, Facts};
 use gm_shelf::{Shelf, read_last};
@@ -25,10 +25,11 @@ fn last_of<H: Shelf>(shelf: &mut H, provider: Label, sectors: u64) -> Result<[u8
 }
 
 // How many first sectors of the provider are equal to those that it is compared with.
-fn equal_of<H: Shelf>(
+fn equal_of<H: Shelf, W: Watch>(
     shelf: &mut H,
     against: Option<Compared>,
     provider: Label,
+    watch: &mut W,
 ) -> Result<u64, BenchFault>
     ensures equal { H.honest shelf.old → IfOk result
         (AreEqual (H.size shelf.old) (H.view shelf.old).seen against provider) }
@@ -36,7 +37,7 @@ fn equal_of<H: Shelf>(
 {
     match against {
         None => Ok(0),
-        Some(with) => match equal_sectors(shelf, with.source, provider, with.limit) {
+        Some(with) => match equal_sectors(shelf, with.source, provider, with.limit, watch) {
             Ok(sectors) => Ok(sectors),
             Err(fault) => Err(BenchFault::of_shelf(fault)),
         },
@@ -44,11 +45,12 @@ fn equal_of<H: Shelf>(
 }
 
 // What the shelf says of a provider that has so many sectors.
-fn fact_there<H: Shelf>(
+fn fact_there<H: Shelf, W: Watch>(
     shelf: &mut H,
     against: Option<Compared>,
     provider: Label,
     sectors: u64,
+    watch: &mut W,
 ) -> Result<Fact, BenchFault>
     ensures fact { H.honest shelf.old → H.size shelf.old provider ≡ Some sectors
         → IfOk result (λ f. IsFact (H.size shelf.old) (H.view shelf.old).seen against f
@@ -57,7 +59,7 @@ fn fact_there<H: Shelf>(
     ensures looks { Looks H.Shelf shelf.old shelf.new result }
 {
     let last = last_of(shelf, provider, sectors)?;
-    let equal = equal_of(shelf, against, provider)?;
+    let equal = equal_of(shelf, against, provider, watch)?;
     Ok(Fact {
         provider,
         sectors,
@@ -67,11 +69,12 @@ fn fact_there<H: Shelf>(
 }
 
 /// What the shelf says of a provider, and how far it is equal to what it is compared with; `None`
-/// if it is absent.
-pub(crate) fn fact_of<H: Shelf>(
+/// if it is absent. The watch is told how far that is.
+pub(crate) fn fact_of<H: Shelf, W: Watch>(
     shelf: &mut H,
     against: Option<Compared>,
     provider: Label,
+    watch: &mut W,
 ) -> Result<Option<Fact>, BenchFault>
     ensures fact { H.honest shelf.old → IfOk result (λ found. MatchOption found
         (H.size shelf.old provider ≡ None)
@@ -84,18 +87,19 @@ pub(crate) fn fact_of<H: Shelf>(
     match shelf.sectors(provider) {
         None => Ok(None),
         Some(sectors) => {
-            let fact = fact_there(shelf, against, provider, sectors)?;
+            let fact = fact_there(shelf, against, provider, sectors, watch)?;
             Ok(Some(fact))
         }
     }
 }
 
 /// What the shelf says of these providers.
-pub(crate) fn facts_of<H: Shelf>(
+pub(crate) fn facts_of<H: Shelf, W: Watch>(
     alloc: Global,
     shelf: &mut H,
     against: &Option<Compared>,
     names: &[Label],
+    watch: &mut W,
 ) -> Result<Facts, BenchFault>
     ensures tell { H.honest shelf.old → IfOk result (λ facts. (q : List ℕ) → Has names.now q
         → Tell facts (H.size shelf.old) (H.view shelf.old).seen against.now q) }
@@ -104,7 +108,7 @@ pub(crate) fn facts_of<H: Shelf>(
 {
     let mut entries = Vec::new(alloc);
     for name in names {
-        match fact_of(shelf, *against, *name)? {
+        match fact_of(shelf, *against, *name, watch)? {
             None => {}
             Some(fact) => match entries.push(fact) {
                 Ok(()) => {}

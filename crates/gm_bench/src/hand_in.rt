@@ -1,20 +1,21 @@
 //! Commands that are handed in one after another: each settles the one before it.
 
-ghost use Rattle.std.specs.Prelude.{◌≡◌, ◌≢◌, ◌<◌, [], IfOk, OnOk, OnErr};
+ghost use Rattle.std.specs.Prelude.{◌≡◌, ◌<◌, [], OnOk, OnErr};
 ghost use Rattle.gm_metadata.specs.Images.{Image};
 ghost use Rattle.gm_state.specs.World.{World};
 ghost use Rattle.gm_registry.specs.Registry.{DiskKept};
 ghost use Rattle.gm_bench.specs.Benches.{progress_of, registry_of, shelf_of};
-ghost use Rattle.gm_bench.specs.Calls.{ClosesOnFault, HandsInByRows, RunsOnce, Settles, TellsStore};
-ghost use Rattle.gm_bench.specs.Owed.{LeavesRun};
-ghost use Rattle.gm_bench.specs.Phases.{TakesNext, phase_carried, phase_of};
+ghost use Rattle.gm_bench.specs.Calls.{ClosesOnFault, Settles};
+ghost use Rattle.gm_bench.specs.HandedIn.{HandsInCommand};
+ghost use Rattle.gm_bench.specs.Phases.{TakesNext};
 ghost use Rattle.gm_bench.specs.Recovering.{IsAt, LeavesOnly};
-ghost use Rattle.gm_bench.specs.Standing.{IsHandedIn, Stands};
+ghost use Rattle.gm_bench.specs.Standing.{Stands};
 
 use crate::answer::Answer;
 use crate::bench::Bench;
 use crate::fault::BenchFault;
 use crate::phase::{Phase, Progress};
+use gm_apply::{Unwatched, Watch};
 use gm_commands::Command;
 use gm_shelf::Shelf;
 use sqlite::Alter;
@@ -31,29 +32,23 @@ impl<S: Alter, H: Shelf> Bench<S, H> {
         command: &Command,
     ) -> Result<Answer, BenchFault>
         requires { TakesNext (progress_of self.old) }
-        ensures answers { H.honest (shelf_of self.old) → DiskKept S.Store (registry_of self.new)
-            → IfOk result (λ a. (away : Image) (v u : World)
-            → Stands S.Store H.view H.size (progress_of self.old)
-            (registry_of self.old) (shelf_of self.old) away v u
-            → IsHandedIn S.Store H.view H.size (progress_of self.new)
-            (registry_of self.old) (registry_of self.new)
-            (shelf_of self.old) (shelf_of self.new) away v u key.now command.now a) }
-        ensures leaves { H.honest (shelf_of self.old) → DiskKept S.Store (registry_of self.new)
-            → OnErr result ((away : Image) (v u : World)
-            → Stands S.Store H.view H.size (progress_of self.old)
-            (registry_of self.old) (shelf_of self.old) away v u
-            → LeavesRun S.Store H.view H.size (registry_of self.old) (registry_of self.new)
-            (shelf_of self.old) (shelf_of self.new) away v u key.now command.now) }
-        ensures not_failed { OnOk result (progress_of self.old ≢ Progress.Failed) }
-        ensures phase { IfOk result (λ a. phase_of (progress_of self.new)
-            ≡ phase_carried (phase_of (progress_of self.old)) a) }
-        // Also of files: by the registry's rows alone.
-        ensures rows { HandsInByRows S.Store H.Shelf self.old self.new result
-            key.now command.now }
-        ensures runs { RunsOnce S.Store H.Shelf self.old self.new result }
-        ensures closes { ClosesOnFault self.old self.new result }
+        ensures { HandsInCommand S.Store H.Shelf self.old self.new result key.now command.now }
     {
-        let answer = self.accept(alloc, key, command)?;
+        self.hand_in_watched(alloc, key, command, &mut Unwatched)
+    }
+
+    /// The same. The watch is told how far data are compared, which `adopt` does.
+    pub(crate) fn hand_in_watched<W: Watch>(
+        &mut self,
+        alloc: Global,
+        key: &str,
+        command: &Command,
+        watch: &mut W,
+    ) -> Result<Answer, BenchFault>
+        requires { TakesNext (progress_of self.old) }
+        ensures { HandsInCommand S.Store H.Shelf self.old self.new result key.now command.now }
+    {
+        let answer = self.accept_watched(alloc, key, command, watch)?;
         match self.phase() {
             Phase::Pending => {
                 self.apply()?;
@@ -68,20 +63,18 @@ impl<S: Alter, H: Shelf> Bench<S, H> {
         requires { TakesNext (progress_of self.old) }
         ensures does { H.honest (shelf_of self.old) → DiskKept S.Store (registry_of self.new)
             → OnOk result ((away : Image) (v u : World)
-            → Stands S.Store H.view H.size (progress_of self.old)
+            → Stands S.Store H.Shelf (progress_of self.old)
             (registry_of self.old) (shelf_of self.old) away v u
-            → IsAt S.Store H.view H.size (registry_of self.new) (shelf_of self.new) away
-            [] [] u u) }
+            → IsAt S.Store H.Shelf (registry_of self.new) (shelf_of self.new) away [] [] u u) }
         ensures leaves { H.honest (shelf_of self.old) → DiskKept S.Store (registry_of self.new)
             → (away : Image) (v u : World)
-            → Stands S.Store H.view H.size (progress_of self.old)
+            → Stands S.Store H.Shelf (progress_of self.old)
             (registry_of self.old) (shelf_of self.old) away v u
-            → LeavesOnly S.Store H.view H.size (registry_of self.old) (registry_of self.new)
+            → LeavesOnly S.Store H.Shelf (registry_of self.old) (registry_of self.new)
             (shelf_of self.old) (shelf_of self.new) away v u }
         ensures phase { OnOk result (progress_of self.new ≡ Progress.Ready) }
         ensures rests { progress_of self.old ≡ Progress.Ready
             → OnErr result ⊥ × (self.new ≡ self.old) }
-        ensures store { TellsStore S.Store (registry_of self.old) (registry_of self.new) result }
         ensures settles { Settles S.Store self.old self.new result }
         ensures closes { ClosesOnFault self.old self.new result }
     {

@@ -27,8 +27,8 @@ use sqlite::Alter;
 /// way a sector that it lacks.
 pub fn whole_run_law<S: Alter, H: Shelf>()
     ensures { (all : Sizes) (events : List (Event (Held S) H)) (now : Now (Held S) H)
-        → Runs S.Store H.view H.size all events now
-        → Headline S.Store H.view H.size all now.phase now.away now.accepted now.acknowledged }
+        → Runs S.Store H.Shelf all events now
+        → Headline S.Store H.Shelf all now.phase now.away now.accepted now.acknowledged }
 {}
 
 /// What is pending after the loss of a component leads on, and keeps what was claimed before the

@@ -7,8 +7,9 @@
 //! `specs/Calls.antt` and `specs/Opened.antt`, what all calls of a kind leave and tell beside that
 //! (`specs/Benches.antt` names what is in a bench), and `specs/Schedule.antt`, what a whole run is;
 //! then `bench` and `calls`, whose calls are those of `media` in turn. `hand_in` hands in one
-//! command after another, each of which settles the one before it (`specs/Standing.antt`). `laws`
-//! says what holds of every run. `views` has the calls that only look; what they tell of a state
+//! command after another, each of which settles the one before it (`specs/Standing.antt`).
+//! `specs/HandedIn.antt` says what a call owes that hands in a command. `laws` says what holds of
+//! every run. `views` has the calls that only look; what they tell of a state
 //! and a shelf is gm_looks's.
 //!
 //! `open_without` opens a bench of which an image is gone for good: `specs/Losing.antt` says what
@@ -42,7 +43,7 @@ mod without;
 pub use answer::{Answer, Kept};
 pub use bench::{Bench, OpenFault};
 pub use fault::BenchFault;
-pub use gm_apply::Watch;
+pub use gm_apply::{Unwatched, Watch};
 pub use laws::{losses_lead_on, whole_run_law};
 pub use loss::LossRefusal;
 pub use open_without::Without;

@@ -26,16 +26,16 @@ impl<S: Alter, H: Shelf> Media<S, H> {
     // Writes a loss, in place of what is pending.
     fn commit_loss(&mut self, loss: &Loss, key: &str) -> Result<u64, BenchFault>
         ensures leaves { H.honest self.old.shelf → DiskKept S.Store self.new.registry
-            → (p : List ℕ) → Commits S.Store H.view H.size
-            (HasJudged S.Store H.view H.size self.old.registry self.old.shelf key.now p loss.now)
+            → (p : List ℕ) → Commits S.Store H.Shelf
+            (HasJudged S.Store H.Shelf self.old.registry self.old.shelf key.now p loss.now)
             (loss_call key.now loss.now.mirror p) p
             self.old.registry self.new.registry self.old.shelf }
         ensures done { H.honest self.old.shelf → DiskKept S.Store self.new.registry
             → IfOk result (λ n. (p : List ℕ) (away : Image) (ts : List Intent)
             (bytes : List (List ℕ)) (u w : World)
-            → HasJudged S.Store H.view H.size self.old.registry self.old.shelf key.now p loss.now
+            → HasJudged S.Store H.Shelf self.old.registry self.old.shelf key.now p loss.now
             away ts bytes u w
-            → IsLost S.Store H.view H.size self.new.registry self.old.shelf away
+            → IsLost S.Store H.Shelf self.new.registry self.old.shelf away
             loss.now key.now p ts u w n) }
         // Of a loss that fits the tables, `Store` comes only if the store failed.
         ensures store { DiskKept S.Store self.new.registry → IsErrOf result BenchFault.Store
@@ -63,13 +63,13 @@ impl<S: Alter, H: Shelf> Media<S, H> {
     /// before anything is written, if an image that this needs isn't there.
     pub(crate) fn lose(&mut self, loss: &Loss, key: &str) -> Result<u64, BenchFault>
         ensures leaves { H.honest self.old.shelf → DiskKept S.Store self.new.registry
-            → (p : List ℕ) → LeavesLoss S.Store H.view H.size
-            (HasJudged S.Store H.view H.size self.old.registry self.old.shelf key.now p loss.now)
+            → (p : List ℕ) → LeavesLoss S.Store H.Shelf
+            (HasJudged S.Store H.Shelf self.old.registry self.old.shelf key.now p loss.now)
             (loss_call key.now loss.now.mirror p) p
             self.old.registry self.new.registry self.old.shelf self.new.shelf }
         ensures done { H.honest self.old.shelf → DiskKept S.Store self.new.registry
-            → IfOk result (λ n. (p : List ℕ) → DoesLoss S.Store H.view H.size
-            (HasJudged S.Store H.view H.size self.old.registry self.old.shelf key.now p loss.now)
+            → IfOk result (λ n. (p : List ℕ) → DoesLoss S.Store H.Shelf
+            (HasJudged S.Store H.Shelf self.old.registry self.old.shelf key.now p loss.now)
             (loss_call key.now loss.now.mirror p) p
             self.new.registry self.new.shelf n loss.now.change.reply) }
         ensures tells { TellsOfLoss S.Store H.Shelf loss.now self.old self.new result }

@@ -52,9 +52,9 @@ impl<S: Alter, H: Shelf> Bench<S, H> {
     ) -> Result<Without<S, H>, OpenFault<S, H>>
         requires { store.in_transaction ≡ false }
         ensures leaves { H.honest shelf → IsOpen S.Store store → MatchResult result
-            (λ it. DiskKept S.Store (store_behind it) → GivesUp S.Store H.view H.size
+            (λ it. DiskKept S.Store (store_behind it) → GivesUp S.Store H.Shelf
             store shelf key.now provider (store_behind it) (shelf_behind it))
-            (λ e. DiskKept S.Store e.store → GivesUp S.Store H.view H.size
+            (λ e. DiskKept S.Store e.store → GivesUp S.Store H.Shelf
             store shelf key.now provider e.store e.shelf) }
         // Neither medium of a store with other tables is touched.
         ensures foreign { IsOpen S.Store store → IsForeign (stored S.Store store)

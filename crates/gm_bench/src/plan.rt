@@ -31,6 +31,7 @@ use crate::facts::facts_of;
 use crate::fault::BenchFault;
 use crate::media::Media;
 use crate::sectors::copied;
+use gm_apply::Watch;
 use gm_changes::{Change, changed_by, decide_part};
 use gm_commands::{Command, MAX_COMMANDS};
 use gm_metadata::Label;
@@ -192,11 +193,12 @@ impl<S: Alter, H: Shelf> Media<S, H> {
     }
 
     // What the images of these providers say; with the others, those are compared with this.
-    fn look_at(
+    fn look_at<W: Watch>(
         &mut self,
         alloc: Global,
         against: &Option<Compared>,
         names: &[Label],
+        watch: &mut W,
     ) -> Result<Facts, BenchFault>
         ensures tell { H.honest self.old.shelf → IfOk result (λ facts. (q : List ℕ)
             → Has names.now q → Tell facts (H.size self.old.shelf)
@@ -205,16 +207,17 @@ impl<S: Alter, H: Shelf> Media<S, H> {
         ensures registry { self.new.registry ≡ self.old.registry }
         ensures looks { Looks H.Shelf self.old.shelf self.new.shelf result }
     {
-        facts_of(alloc, &mut self.shelf, against, names)
+        facts_of(alloc, &mut self.shelf, against, names, watch)
     }
 
     // What the shelf says of the providers that a command needs, of which the part is known.
-    fn look(
+    fn look<W: Watch>(
         &mut self,
         alloc: Global,
         part: &State,
         command: &Command,
         against: &Option<Compared>,
+        watch: &mut W,
     ) -> Result<Facts, BenchFault>
         ensures tell { H.honest self.old.shelf → IfOk result (λ facts. (s : Records)
             → IsPartOf part.now command.now s → (q : List ℕ) → Has (needed_by s command.now) q
@@ -224,17 +227,22 @@ impl<S: Alter, H: Shelf> Media<S, H> {
         ensures looks { Looks H.Shelf self.old.shelf self.new.shelf result }
     {
         match needed(alloc, part, command) {
-            Ok(names) => self.look_at(alloc, against, &names),
+            Ok(names) => self.look_at(alloc, against, &names, watch),
             Err(_) => Err(BenchFault::Memory),
         }
     }
 
     // What is to be known to decide on the command: the images that it adopts from say which mids
     // its part has, and which data are to be compared.
-    fn gather(&mut self, alloc: Global, command: &Command) -> Result<Gathered, BenchFault>
+    fn gather<W: Watch>(
+        &mut self,
+        alloc: Global,
+        command: &Command,
+        watch: &mut W,
+    ) -> Result<Gathered, BenchFault>
         ensures known { H.honest self.old.shelf → DiskKept S.Store self.new.registry
             → IfOk result (λ r. (away : Image) (ts : List Intent) (bytes : List (List ℕ))
-            (v u : World) → (at : IsCarriedOut S.Store H.view H.size self.old.registry
+            (v u : World) → (at : IsCarriedOut S.Store H.Shelf self.old.registry
             self.old.shelf away ts bytes v u)
             → IsKnown u command.now r × HasTables S.Store self.new.registry at.tables) }
         ensures serves { DiskKept S.Store self.new.registry
@@ -251,26 +259,28 @@ impl<S: Alter, H: Shelf> Media<S, H> {
         ensures asks { Asks S.Store H.Shelf self.old self.new result }
     {
         let providers = adopted_from(command);
-        let first = self.look_at(alloc, &None, providers)?;
+        let first = self.look_at(alloc, &None, providers, watch)?;
         let mids = match found_mids(alloc, &first, providers) {
             Ok(mids) => mids,
             Err(_) => return Err(BenchFault::Memory),
         };
         let part = self.part(alloc, command, &mids)?;
         let against = compared_with(adopt_source(&first, providers));
-        let facts = self.look(alloc, &part.state, command, &against)?;
+        let facts = self.look(alloc, &part.state, command, &against, watch)?;
         Ok(Gathered { part, facts })
     }
 
-    /// What the rules answer, with what is carried out once that is accepted. It writes nothing.
-    pub(crate) fn ask(
+    /// What the rules answer, with what is carried out once that is accepted. It writes nothing. The
+    /// watch is told how far data are compared.
+    pub(crate) fn ask<W: Watch>(
         &mut self,
         alloc: Global,
         command: &Command,
+        watch: &mut W,
     ) -> Result<Result<Planned, Refusal>, BenchFault>
         ensures decides { H.honest self.old.shelf → DiskKept S.Store self.new.registry
             → IfOk result (λ r. (away : Image) (ts : List Intent) (bytes : List (List ℕ))
-            (v u : World) → (at : IsCarriedOut S.Store H.view H.size self.old.registry
+            (v u : World) → (at : IsCarriedOut S.Store H.Shelf self.old.registry
             self.old.shelf away ts bytes v u)
             → IsDecided u command.now r × HasTables S.Store self.new.registry at.tables) }
         ensures at_hand { DiskKept S.Store self.new.registry
@@ -290,7 +300,7 @@ impl<S: Alter, H: Shelf> Media<S, H> {
             → IsHonestToAdopt H.Shelf self.old.shelf command.now → ⊥ }
         ensures asks { Asks S.Store H.Shelf self.old self.new result }
     {
-        let known = self.gather(alloc, command)?;
+        let known = self.gather(alloc, command, watch)?;
         let part = &known.part;
         decide_on(alloc, &part.state, part.mirrors, &known.facts, command)
     }

@@ -55,9 +55,8 @@ impl<S: Alter, H: Shelf> Media<S, H> {
         ensures looked { H.honest self.old.shelf → DiskKept S.Store self.new.registry
             → IfOk result (λ l. (away : Image) (ts : List Intent) (bytes : List (List ℕ))
             (u w : World)
-            → (at : IsFound S.Store H.view H.size self.old.registry self.old.shelf away ts bytes u
-            w)
-            → IsLooked S.Store H.view H.size self.new.registry self.new.shelf key.now provider l
+            → (at : IsFound S.Store H.Shelf self.old.registry self.old.shelf away ts bytes u w)
+            → IsLooked S.Store H.Shelf self.new.registry self.new.shelf key.now provider l
             away ts bytes u w × HasTables S.Store self.new.registry at.tables) }
         ensures unreadable { DiskKept S.Store self.new.registry
             → IsErrOf result BenchFault.Unreadable → (t : Tables) (s : Records) (ts : List Intent)
@@ -101,19 +100,19 @@ impl<S: Alter, H: Shelf> Media<S, H> {
         key: &str,
     ) -> Result<TakenUp, BenchFault>
         ensures leaves { H.honest self.old.shelf → DiskKept S.Store self.new.registry
-            → LeavesWithout S.Store H.view H.size key.now provider
+            → LeavesWithout S.Store H.Shelf key.now provider
             self.old.registry self.new.registry self.old.shelf self.new.shelf }
         ensures does { H.honest self.old.shelf → DiskKept S.Store self.new.registry
-            → IfOk result (DoesWithout S.Store H.view H.size key.now provider
+            → IfOk result (DoesWithout S.Store H.Shelf key.now provider
             self.old.registry self.new.registry self.old.shelf self.new.shelf) }
         ensures undone { H.honest self.old.shelf → DiskKept S.Store self.new.registry
-            → IfOk result (KeepsUndone S.Store H.view H.size key.now provider
+            → IfOk result (KeepsUndone S.Store H.Shelf key.now provider
             self.old.registry self.new.registry self.old.shelf self.new.shelf) }
         // A refusal, F5 and F6 come before anything is written.
         ensures before { StaysUnlost S.Store self.old self.new result }
         ensures lacks { H.honest self.old.shelf → DiskKept S.Store self.new.registry
             → (q : List ℕ) → IsErrOf result (BenchFault.Absent q)
-            → LacksFirst S.Store H.view H.size key.now provider
+            → LacksFirst S.Store H.Shelf key.now provider
             self.old.registry self.new.registry self.old.shelf self.new.shelf q }
         ensures tells { TellsWithout S.Store H.Shelf key.now self.old self.new result }
         ensures keep { Keep S.Store H.Shelf self.old.registry self.new.registry

@@ -4,7 +4,7 @@ use Rattle.sqlite_trees.specs.declared.store.Store.{Ghosts}
 use Rattle.sqlite.specs.Held.{Held}
 use Rattle.sqlite.specs.Tree.{Trees}
 use Rattle.gm_metadata.specs.Images.{Image, Sizes}
-use Rattle.gm_shelf.specs.Disk.{View}
+use Rattle.gm_shelf.specs.declared.shelf.Shelf.{Ghosts as ShelfGhosts}
 use Rattle.gm_commands.specs.declared.command.Command.{Command}
 use Rattle.gm_state.specs.World.{World}
 use Rattle.gm_rules.specs.AbstractCalls as run
@@ -154,12 +154,12 @@ module _ (all : Sizes) where
             (l.reached, step));
       }
 
-  module _ {S H : Type 0} (g : Ghosts S) (view : H → View) (size : H → Sizes) where
+  module _ {S H : Type 0} (g : Ghosts S) (j : ShelfGhosts H) where
     at_rest : (r s : Held S) (h k : H) (away : Image) (acc ack : List Entry) (lines : List (List ℕ))
         (text : List ℕ) (refused : Bool)
-        → (rest : AtRest g view size all r h away acc ack)
-        → AreAnswered g view size s k away rest.world lines text refused
-        → IsAtRestBehind g view size all (calls_of lines) s k away acc ack
+        → (rest : AtRest g j all r h away acc ack)
+        → AreAnswered g j s k away rest.world lines text refused
+        → IsAtRestBehind g j all (calls_of lines) s k away acc ack
     at_rest r s h k away acc ack lines text refused rest a =
         let l = all_lines lines rest.world a.world text refused acc ack a.answers rest.reached
         rest.told in
@@ -171,22 +171,21 @@ module _ (all : Sizes) where
 
     -- a bench that was at rest failed at this call
     pub stopped_at : (call : run.Call) (r s : Held S) (h k : H) (away : Image)
-        (acc ack : List Entry) → (rest : AtRest g view size all r h away acc ack)
-        → LeavesRun g view size r s h k away rest.world rest.world call.key call.command
-        → IsStoppedAt g view size all call r s h k away acc ack rest
+        (acc ack : List Entry) → (rest : AtRest g j all r h away acc ack)
+        → LeavesRun g j r s h k away rest.world rest.world call.key call.command
+        → IsStoppedAt g j all call r s h k away acc ack rest
     stopped_at call r s h k away acc ack rest left = record {
       left = left;
-      leads = λ db later after found stop. run_stopped g view size all call _ r s h k db later
-          away acc ack after (reached_at_rest g view size all r h away acc ack rest) found
-          left stop;
+      leads = λ db later after found stop. run_stopped g j all call _ r s h k db later
+          away acc ack after (reached_at_rest g j all r h away acc ack rest) found left stop;
     }
 
     -- the lines were carried out, from a bench that was at rest
     abbrev carried_behind : (r s : Held S) (h k : H) (away : Image) (acc ack : List Entry)
         (lines : List (List ℕ)) (text : List ℕ) (refused : Bool)
-        (rest : AtRest g view size all r h away acc ack)
-        (a : AreCarriedOut g view size s k away rest.world lines text refused)
-        → AreCarriedBehind g view size all (calls_of lines) s k away acc ack
+        (rest : AtRest g j all r h away acc ack)
+        (a : AreCarriedOut g j s k away rest.world lines text refused)
+        → AreCarriedBehind g j all (calls_of lines) s k away acc ack
     carried_behind r s h k away acc ack lines text refused rest a =
         let l = last_of_lines lines rest.world a.before a.world text refused acc ack a.answers
         a.last rest.reached rest.told in record {
@@ -204,35 +203,35 @@ module _ (all : Sizes) where
 
     -- what a stop leaves within the next call
     next_leads : (handed : List run.Call) (call : run.Call) (r s : Held S) (h k : H) (away : Image)
-        (acc ack : List Entry) (it : AreCarriedBehind g view size all handed r h away acc ack)
-        (left : LeavesNext g view size r s h k away it.before it.world call.key call.command)
+        (acc ack : List Entry) (it : AreCarriedBehind g j all handed r h away acc ack)
+        (left : LeavesNext g j r s h k away it.before it.world call.key call.command)
         (db : Trees) (l : H) (after : List Entry)
         → IsLeftIn db (Handed_in call) (with_calls it.calls acc) after
-        → IsNextStop g view size all r s h k away it.before it.world call left db l
-        → Stopped g view size all db l away after (with_calls it.calls ack)
+        → IsNextStop g j all r s h k away it.before it.world call left db l
+        → Stopped g j all db l away after (with_calls it.calls ack)
     next_leads handed call r s h k away acc ack it (inl left) db l after found stop =
-        run_stopped g view size all call _ r s h k db l away (with_calls it.calls acc)
-        (with_calls it.calls ack) after (reached_done g view size all r h away
+        run_stopped g j all call _ r s h k db l away (with_calls it.calls acc)
+        (with_calls it.calls ack) after (reached_done g j all r h away
         (with_calls it.calls acc) (with_calls it.calls ack) it.intents it.bytes it.before it.world
         it.reached it.last it.at it.told) found left stop
     next_leads handed call r s h k away acc ack it (inr left) db l after found (inl stop) =
-        accept_stopped g view size all call _ r left.registry h left.shelf db l away
+        accept_stopped g j all call _ r left.registry h left.shelf db l away
         (with_calls it.calls acc) (with_calls it.calls ack) after
-        (reached_done g view size all r h away
+        (reached_done g j all r h away
         (with_calls it.calls acc) (with_calls it.calls ack) it.intents it.bytes it.before it.world
         it.reached it.last it.at it.told) found left.accepting stop
     next_leads handed call r s h k away acc ack it (inr left) db l after found (inr stop) =
-        settling_stopped g view size all call _ r left.registry s h left.shelf k db l
+        settling_stopped g j all call _ r left.registry s h left.shelf k db l
         away (with_calls it.calls acc) (with_calls it.calls ack) after
-        (reached_done g view size all r h away
+        (reached_done g j all r h away
         (with_calls it.calls acc) (with_calls it.calls ack) it.intents it.bytes it.before it.world
         it.reached it.last it.at it.told) found left.sizes left.settling stop
 
     stops : (r s : Held S) (h k : H) (away : Image) (acc ack : List Entry) (input : Option (List ℕ))
         (Told : List ℕ → Type 0) (fault : _)
-        → (rest : AtRest g view size all r h away acc ack)
-        → Stops g view size input Told s k away rest.world fault
-        → StopsAtLine g view size all input s k away acc ack
+        → (rest : AtRest g j all r h away acc ack)
+        → Stops g j input Told s k away rest.world fault
+        → StopsAtLine g j all input s k away acc ack
     stops r s h k away acc ack input Told fault rest it =
         let behind = carried_behind r it.registry h it.shelf away acc ack it.lines it.text
         it.refused rest it.answered in
@@ -256,9 +255,9 @@ module _ (all : Sizes) where
     -- the bench failed as it settled the last command
     unsettled : (r s : Held S) (h k : H) (away : Image) (acc ack : List Entry)
         (lines : List (List ℕ)) (text : List ℕ) (refused : Bool)
-        → (rest : AtRest g view size all r h away acc ack)
-        → AreUnsettled g view size s k away rest.world lines text refused
-        → IsStoppedSettling g view size all (calls_of lines) s k away acc ack
+        → (rest : AtRest g j all r h away acc ack)
+        → AreUnsettled g j s k away rest.world lines text refused
+        → IsStoppedSettling g j all (calls_of lines) s k away acc ack
     unsettled r s h k away acc ack lines text refused rest it =
         let behind = carried_behind r it.registry h it.shelf away acc ack lines text refused rest
         it.carried in
@@ -266,7 +265,7 @@ module _ (all : Sizes) where
           registry = it.registry;
           shelf = it.shelf;
           behind = behind;
-          leads = λ db l stop. stopped g view size all it.registry s it.shelf k db l away
+          leads = λ db l stop. stopped g j all it.registry s it.shelf k db l away
               behind.before behind.world (with_calls behind.calls acc)
               (with_calls behind.calls ack) behind.reached behind.last behind.at.sizes behind.told
               it.left stop;
@@ -275,9 +274,9 @@ module _ (all : Sizes) where
     pub batch_leaves : (r : Held S) (h : H) (away : Image) (acc ack : List Entry)
         (input before now : Option (List ℕ)) (s : Held S) (k : H)
         (ended : Result BatchEnd FrontFault)
-        → (rest : AtRest g view size all r h away acc ack)
-        → Batches g view size input before now s k away rest.world ended
-        → BatchLeaves g view size all input s k away acc ack ended
+        → (rest : AtRest g j all r h away acc ack)
+        → Batches g j input before now s k away rest.world ended
+        → BatchLeaves g j all input s k away acc ack ended
     batch_leaves r h away acc ack input before now s k (Ok (end.Ended refused)) rest b =
         (b.lines, b.read, at_rest r s h k away acc ack b.lines b.text refused rest b.answered)
     batch_leaves r h away acc ack input before now s k (Ok (end.Stopped fault)) rest b =

@@ -7,7 +7,7 @@ use Rattle.sqlite_trees.specs.declared.store.Store.{Ghosts}
 use Rattle.sqlite_trees.specs.declared.store.Store.{Ghosts as StoreGhosts}
 use Rattle.sqlite.specs.Held.{Held}
 use Rattle.gm_metadata.specs.Images.{Image, Sizes, SameThere}
-use Rattle.gm_shelf.specs.Disk.{View, IsLawful}
+use Rattle.gm_shelf.specs.Disk.{IsLawful}
 use Rattle.gm_shelf.specs.declared.shelf.Shelf.{Ghosts as ShelfGhosts}
 use Rattle.gm_state.specs.World.{World, present}
 use Rattle.gm_rows.specs.ReadableTables.{AreRecordsOf, AreTablesOf}
@@ -43,33 +43,31 @@ pub last_same : (size : Sizes) (x y : Image) (p : List ℕ) → SameThere size x
     → last_sector size x p ≡ last_sector size y p
 last_same size x y p same = by_size size x y p same (size p) refl
 
-module _ {S H : Type 0} (g : Ghosts S) (view : H → View) (size : H → Sizes) (r : Held S) (h : H)
-    (away : Image) (u : World) (at : IsAt g view size r h away [] [] u u)
-    (lawful : IsLawful (view h)) where
+module _ {S H : Type 0} (g : Ghosts S) (j : ShelfGhosts H) (r : Held S) (h : H)
+    (away : Image) (u : World) (at : IsAt g j r h away [] [] u u)
+    (lawful : IsLawful (j.view h)) where
   -- what is seen of the providers that are there is what they hold
-  seen_there : SameThere (size h) (view h).seen u.shelf
-  seen_there q here j =
-      let leads = (at.leads (view h).seen lawful.holds_now).0 in
-      sym (whole_there (size h) away (view h).seen q here j)
-      ∙ at_rest at.tables (whole (size h) away (view h).seen) u leads q
-      (there_full (size h) u.size (masked u (size h) at.sizes) q here) j
+  seen_there : SameThere (j.size h) (j.view h).seen u.shelf
+  seen_there q here i =
+      let leads = (at.leads (j.view h).seen lawful.holds_now).0 in
+      sym (whole_there (j.size h) away (j.view h).seen q here i)
+      ∙ at_rest at.tables (whole (j.size h) away (j.view h).seen) u leads q
+      (there_full (j.size h) u.size (masked u (j.size h) at.sizes) q here) i
 
   -- so are the last sectors
   pub last_shown : (p : List ℕ)
-      → last_sector (size h) (view h).seen p ≡ last_sector (present u) u.shelf p
-  last_shown p = last_same (size h) (view h).seen u.shelf p seen_there
+      → last_sector (j.size h) (j.view h).seen p ≡ last_sector (present u) u.shelf p
+  last_shown p = last_same (j.size h) (j.view h).seen u.shelf p seen_there
       ∙ ap (λ (z : Sizes). last_sector z u.shelf p) (sym at.sizes)
 
   -- what the tables of mirrors and components say are the records
   pub records_shown : AreRecordsOf at.tables u.state
-  records_shown = are_records g view size r h away [] [] u u (done_at_rest g view size r h away u
-      at)
-      lawful
+  records_shown = are_records g j r h away [] [] u u (done_at_rest g j r h away u at) lawful
 
   -- and nothing is pending
   pub tables_shown : AreTablesOf at.tables u.state [] []
-  tables_shown = tables_of at.tables [] [] (whole (size h) away (view h).seen) u
-      (at.leads (view h).seen lawful.holds_now).0
+  tables_shown = tables_of at.tables [] [] (whole (j.size h) away (j.view h).seen) u
+      (at.leads (j.view h).seen lawful.holds_now).0
 
 -- the fault that is told of a result that failed is its own
 pub store_of : {T : Type 0} (fault : BenchFault)
@@ -82,23 +80,21 @@ module _ {S H T : Type 0} (s : StoreGhosts S) (h : ShelfGhosts H) (old new : Ben
     (result : Result T BenchFault) (looks : LooksOn s h old new result)
     (honest : h.honest (shelf_of old)) (kept : DiskKept s (registry_of new)) (away : Image)
     (u : World)
-    (at : IsAt s h.view h.size (registry_of old) (shelf_of old) away [] [] u u) where
+    (at : IsAt s h (registry_of old) (shelf_of old) away [] [] u u) where
   pub stays_at_rest : (x : T) → result ≡ Ok x
-      → IsAt s h.view h.size (registry_of new) (shelf_of new) away [] [] u u
+      → IsAt s h (registry_of new) (shelf_of new) away [] [] u u
   stays_at_rest x is =
-      looked_at s h.view h.size (registry_of old) (registry_of new) (shelf_of old) (shelf_of new)
-      away [] [] u u
-      (let P : Result T BenchFault → Type 0 = λ r. OnOk r (LookDoes s h.view h.size
+      looked_at s h (registry_of old) (registry_of new) (shelf_of old) (shelf_of new) away [] [] u u
+      (let P : Result T BenchFault → Type 0 = λ r. OnOk r (LookDoes s h
       (registry_of old) (registry_of new) (shelf_of old) (shelf_of new)) in
       subst P is (looks.does honest kept)) at
 
   pub look_fails : (demand : Demand) (fault : BenchFault)
-      → (LeavesOnly s h.view h.size (registry_of old) (registry_of new) (shelf_of old)
-      (shelf_of new) away u u
-      → LeavesDemand s h.view h.size (registry_of old) (registry_of new) (shelf_of old)
+      → (LeavesOnly s h (registry_of old) (registry_of new) (shelf_of old) (shelf_of new) away u u
+      → LeavesDemand s h (registry_of old) (registry_of new) (shelf_of old)
       (shelf_of new) away u demand)
       → result ≡ Err fault → (fault ≡ Unreadable → ⊥)
-      → Fails s h.view h.size (registry_of old) (registry_of new) (shelf_of old) (shelf_of new)
+      → Fails s h (registry_of old) (registry_of new) (shelf_of old) (shelf_of new)
       away u demand fault
   look_fails demand fault look is readable = record {
     left = look (looks.leaves honest kept away [] [] u u at);

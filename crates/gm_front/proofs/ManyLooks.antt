@@ -43,7 +43,7 @@ module _ {S H T U : Type 0} (s : Ghosts S) (h : ShelfGhosts H) (settling : IsSet
     leaves = λ honest clean away ts bytes u w at.
         let one = first.does honest (mid clean) in
         let quiet = (only.reads honest).quiet in
-        read_only s h.view h.size (registry_of a) (registry_of c) (shelf_of a) (shelf_of c) away
+        read_only s h (registry_of a) (registry_of c) (shelf_of a) (shelf_of c) away
         at.tables ts bytes u w (saved s settling (registry_of a) at.tables at.has).crash clean
         (nothing_then s (registry_of a) (registry_of b) (registry_of c)
         (first.store.left at.tables at.has)
@@ -75,7 +75,7 @@ module _ {S H T U : Type 0} (s : Ghosts S) (h : ShelfGhosts H) (settling : IsSet
 
 -- a bench that isn't asked is as it was
 pub looks_nothing : {S H : Type 0} (s : Ghosts S) (h : ShelfGhosts H) (b : Bench S H)
-    → LookDoes s h.view h.size (registry_of b) (registry_of b) (shelf_of b) (shelf_of b)
+    → LookDoes s h (registry_of b) (registry_of b) (shelf_of b) (shelf_of b)
 looks_nothing s h b = record { tables = λ t has. has; images = λ x may. may; sizes = refl }
 
 -- what holds of a call's key and command holds of the same call's

@@ -2,8 +2,8 @@
 use Rattle.std.proofs.Common.{◌≡◌, ◌∙◌, inl, inr, ℕ, List, [], Ok, Err, Result, refl, sym, subst, IsErrAnd, IfErr}
 use Rattle.sqlite_trees.specs.declared.store.Store.{Ghosts}
 use Rattle.sqlite.specs.Held.{Held}
-use Rattle.gm_metadata.specs.Images.{Image, Sizes}
-use Rattle.gm_shelf.specs.Disk.{View}
+use Rattle.gm_metadata.specs.Images.{Image}
+use Rattle.gm_shelf.specs.declared.shelf.Shelf.{Ghosts as ShelfGhosts}
 use Rattle.gm_commands.specs.declared.command.Command.{Command}
 use Rattle.gm_state.specs.World.{World}
 use Rattle.gm_bench.specs.declared.answer.Answer.{Answer}
@@ -22,12 +22,12 @@ pub passed_on : {T E : Type 0} (P : E → Type 0) (r : Result T E) (given : E)
 passed_on P (Ok x) given passed p = tt
 passed_on P (Err x) given passed p = subst P (sym passed) p
 
-module _ {S H : Type 0} (g : Ghosts S) (view : H → View) (size : H → Sizes) where
+module _ {S H : Type 0} (g : Ghosts S) (j : ShelfGhosts H) where
   module _ (q : Progress) (r mid : Held S) (h k : H) (away : Image) (v u : World) (key : List ℕ)
       (c : Command) where
     -- the next one settles it
-    pub kept_waiting : (a : Answer) → IsHandedIn g view size q r mid h k away v u key c a
-        → IsAnsweredNext g view size q mid k away v u key c a
+    pub kept_waiting : (a : Answer) → IsHandedIn g j q r mid h k away v u key c a
+        → IsAnsweredNext g j q mid k away v u key c a
     kept_waiting (Done n reply) it =
         record { world = it.0; before = u; calls = it.1; waits = inr refl; stands = it.3 }
     kept_waiting (Repeated n reply) it =
@@ -37,37 +37,37 @@ module _ {S H : Type 0} (g : Ghosts S) (view : H → View) (size : H → Sizes) 
 
     -- it is settled
     pub settled_next : (p : Progress) (s : Held S) (l : H) (a : Answer)
-        → IsHandedIn g view size q r mid h k away v u key c a → TakesCommands p
-        → ((x w : World) → Stands g view size q mid k away x w
-        → IsAt g view size s l away [] [] w w) → IsAnsweredNext g view size p s l away v u key c a
+        → IsHandedIn g j q r mid h k away v u key c a → TakesCommands p
+        → ((x w : World) → Stands g j q mid k away x w
+        → IsAt g j s l away [] [] w w) → IsAnsweredNext g j p s l away v u key c a
     settled_next p s l (Done n reply) it takes settles = record {
       world = it.0;
       before = it.0;
       calls = it.1;
       waits = inl refl;
-      stands = stands_rest g view size p s l away it.0 takes (settles u it.0 it.3);
+      stands = stands_rest g j p s l away it.0 takes (settles u it.0 it.3);
     }
     settled_next p s l (Repeated n reply) it takes settles = record {
       world = u;
       before = u;
       calls = it.0;
       waits = inl refl;
-      stands = stands_rest g view size p s l away u takes (settles v u it.2);
+      stands = stands_rest g j p s l away u takes (settles v u it.2);
     }
     settled_next p s l (Refused why) it takes settles = record {
       world = u;
       before = u;
       calls = it.0;
       waits = inl refl;
-      stands = stands_rest g view size p s l away u takes (settles v u it.2);
+      stands = stands_rest g j p s l away u takes (settles v u it.2);
     }
 
     -- it couldn't be settled
     pub unsettled_next : (s : Held S) (l : H) (a : Answer)
-        → IsHandedIn g view size q r mid h k away v u key c a → size k ≡ size h → l ≡ k
-        → ((x w : World) → Stands g view size q mid k away x w
-        → LeavesOnly g view size mid s k l away x w)
-        → LeavesNext g view size r s h l away v u key c
+        → IsHandedIn g j q r mid h k away v u key c a → j.size k ≡ j.size h → l ≡ k
+        → ((x w : World) → Stands g j q mid k away x w
+        → LeavesOnly g j mid s k l away x w)
+        → LeavesNext g j r s h l away v u key c
     unsettled_next s l (Done n reply) it sizes same settling = inl (record {
       registry = it.2.registry;
       shelf = it.2.shelf;
@@ -78,7 +78,7 @@ module _ {S H : Type 0} (g : Ghosts S) (view : H → View) (size : H → Sizes) 
         reply,
         it.1.3,
         it.2.pending,
-        then_only g view size it.2.registry mid s it.2.shelf k l away u it.0 same
+        then_only g j it.2.registry mid s it.2.shelf k l away u it.0 same
             (sizes ∙ sym it.2.sizes) it.2.carrying (settling u it.0 it.3),
       );
     })

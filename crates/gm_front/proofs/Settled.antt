@@ -3,8 +3,8 @@ use Rattle.std.proofs.Common.{◌≡◌, ◌∙◌, inl, inr, ℕ, Bool, List, [
 use Rattle.std.specs.Prelude.{OnOk}
 use Rattle.sqlite_trees.specs.declared.store.Store.{Ghosts}
 use Rattle.sqlite.specs.Held.{Held}
-use Rattle.gm_metadata.specs.Images.{Image, Sizes}
-use Rattle.gm_shelf.specs.Disk.{View}
+use Rattle.gm_metadata.specs.Images.{Image}
+use Rattle.gm_shelf.specs.declared.shelf.Shelf.{Ghosts as ShelfGhosts}
 use Rattle.gm_state.specs.World.{World}
 use Rattle.gm_bench.specs.declared.answer.Work.{Work}
 use Rattle.gm_bench.specs.declared.bench.Bench.{Bench}
@@ -74,26 +74,26 @@ all_first : (input : Option (List ℕ)) (lines : List (List ℕ)) → AreLines i
 all_first None lines are = tt
 all_first (Some bytes) lines are = ([], are ∙ sym (append-nil lines))
 
-module _ {S H : Type 0} (g : Ghosts S) (view : H → View) (size : H → Sizes)
+module _ {S H : Type 0} (g : Ghosts S) (j : ShelfGhosts H)
     (input before now : Option (List ℕ)) (r : Held S) (h : H) (away : Image) (u : World) where
   -- nothing is to be settled
   pub ends_rest : (p : Progress) → TakesCommands p → (ended : Result BatchEnd FrontFault)
-      → HandsIn g view size p input before now r h away u ended
-      → Batches g view size input before now r h away u ended
+      → HandsIn g j p input before now r h away u ended
+      → Batches g j input before now r h away u ended
   ends_rest p takes ended it = by ended it
     where
       rest : (lines : List (List ℕ)) (text : List ℕ) (refused : Bool)
-          → AreStanding g view size p r h away u lines text refused
-          → AreAnswered g view size r h away u lines text refused
+          → AreStanding g j p r h away u lines text refused
+          → AreAnswered g j r h away u lines text refused
       rest lines text refused is = record {
         world = is.world;
         answers = is.answers;
-        at = rest_stands g view size p r h away is.before is.world takes is.stands;
+        at = rest_stands g j p r h away is.before is.world takes is.stands;
       }
 
       by : (ended : Result BatchEnd FrontFault)
-          → HandsIn g view size p input before now r h away u ended
-          → Batches g view size input before now r h away u ended
+          → HandsIn g j p input before now r h away u ended
+          → Batches g j input before now r h away u ended
       by (Ok (end.Ended refused)) it = record {
         lines = it.lines;
         text = it.text;
@@ -114,14 +114,14 @@ module _ {S H : Type 0} (g : Ghosts S) (view : H → View) (size : H → Sizes)
 
   module _ (work : Work) (s : Held S) where
     -- the last command was settled
-    pub ends_settled : SettleDoes g view size r s h work → (ended : Result BatchEnd FrontFault)
-        → HandsIn g view size (Applied work) input before now r h away u ended
-        → Batches g view size input before now s h away u ended
+    pub ends_settled : SettleDoes g j r s h work → (ended : Result BatchEnd FrontFault)
+        → HandsIn g j (Applied work) input before now r h away u ended
+        → Batches g j input before now s h away u ended
     ends_settled does ended it = by ended it
       where
         rest : (lines : List (List ℕ)) (text : List ℕ) (refused : Bool)
-            → AreStanding g view size (Applied work) r h away u lines text refused
-            → AreAnswered g view size s h away u lines text refused
+            → AreStanding g j (Applied work) r h away u lines text refused
+            → AreAnswered g j s h away u lines text refused
         rest lines text refused is = record {
           world = is.world;
           answers = is.answers;
@@ -129,8 +129,8 @@ module _ {S H : Type 0} (g : Ghosts S) (view : H → View) (size : H → Sizes)
         }
 
         by : (ended : Result BatchEnd FrontFault)
-            → HandsIn g view size (Applied work) input before now r h away u ended
-            → Batches g view size input before now s h away u ended
+            → HandsIn g j (Applied work) input before now r h away u ended
+            → Batches g j input before now s h away u ended
         by (Ok (end.Ended refused)) it = record {
           lines = it.lines;
           text = it.text;
@@ -150,25 +150,25 @@ module _ {S H : Type 0} (g : Ghosts S) (view : H → View) (size : H → Sizes)
         by (Err fault) (inr (f, is, stops)) = absurd (let no : ⊥ = cc in no)
 
     -- it couldn't be
-    pub ends_unsettled : SettleLeaves g view size r s h work
+    pub ends_unsettled : SettleLeaves g j r s h work
         → (ended : Result BatchEnd FrontFault)
-        → HandsIn g view size (Applied work) input before now r h away u ended
-        → Batches g view size input before now s h away u (Err (unsettled_fault ended))
+        → HandsIn g j (Applied work) input before now r h away u ended
+        → Batches g j input before now s h away u (Err (unsettled_fault ended))
     ends_unsettled leaves ended it = by ended it
       where
         left : (lines : List (List ℕ)) (text : List ℕ) (refused : Bool)
-            → AreStanding g view size (Applied work) r h away u lines text refused
-            → AreUnsettled g view size s h away u lines text refused
+            → AreStanding g j (Applied work) r h away u lines text refused
+            → AreUnsettled g j s h away u lines text refused
         left lines text refused is = record {
           registry = r;
           shelf = h;
-          carried = carried g view size (Applied work) r h away u lines text refused is;
+          carried = carried g j (Applied work) r h away u lines text refused is;
           left = leaves away is.before is.world is.stands.0 is.stands.1;
         }
 
         by : (ended : Result BatchEnd FrontFault)
-            → HandsIn g view size (Applied work) input before now r h away u ended
-            → Batches g view size input before now s h away u (Err (unsettled_fault ended))
+            → HandsIn g j (Applied work) input before now r h away u ended
+            → Batches g j input before now s h away u (Err (unsettled_fault ended))
         by (Ok (end.Ended refused)) it = inr (inr (record {
           lines = it.lines;
           text = it.text;

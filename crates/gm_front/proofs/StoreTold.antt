@@ -2,8 +2,8 @@
 use Rattle.std.proofs.Common.{◌≡◌, Option, Some}
 use Rattle.sqlite_trees.specs.declared.store.Store.{Ghosts}
 use Rattle.sqlite.specs.Held.{Held}
-use Rattle.gm_metadata.specs.Images.{Image, Sizes}
-use Rattle.gm_shelf.specs.Disk.{View}
+use Rattle.gm_metadata.specs.Images.{Image}
+use Rattle.gm_shelf.specs.declared.shelf.Shelf.{Ghosts as ShelfGhosts}
 use Rattle.gm_state.specs.World.{World}
 use Rattle.gm_registry.specs.Fitting.{HasRoom}
 use Rattle.gm_registry.specs.Registry.{StoreFailed, seen}
@@ -16,17 +16,17 @@ use Rattle.gm_lines.specs.Asked.{Asked}
 use Rattle.gm_front.specs.declared.outcome.Outcome.{Outcome}
 use Rattle.gm_front.specs.declared.outcome.Outcome.TheVariants as outcome
 
-pub store_told : {S H : Type 0} (g : Ghosts S) (view : H → View) (size : H → Sizes) (r s : Held S)
+pub store_told : {S H : Type 0} (g : Ghosts S) (j : ShelfGhosts H) (r s : Held S)
     (h k : H) (away : Image) (u : World) (asks : Asked) (it : Outcome)
-    → ComesTo g view size r s h k away u asks it
+    → ComesTo g j r s h k away u asks it
     → ◌≡◌ {A = Option BenchFault} (outcome_fault it) (Some Store)
     → HasRoom most_rows (seen g r) → StoreFailed g r s
-store_told g view size r s h k away u asks outcome.Nothing comes is room =
+store_told g j r s h k away u asks outcome.Nothing comes is room =
     absurd (let no : ⊥ = cc in no)
-store_told g view size r s h k away u asks (outcome.Wrong key) comes is room =
+store_told g j r s h k away u asks (outcome.Wrong key) comes is room =
     absurd (let no : ⊥ = cc in no)
-store_told g view size r s h k away u asks (outcome.Answered key answer) comes is room =
+store_told g j r s h k away u asks (outcome.Answered key answer) comes is room =
     absurd (let no : ⊥ = cc in no)
-store_told g view size r s h k away u asks (outcome.Failed key fault) comes is room =
+store_told g j r s h k away u asks (outcome.Failed key fault) comes is room =
     let same : fault ≡ Store = cc in
     comes.2.store same room

@@ -8,8 +8,8 @@ use Rattle.std.specs.Io.KnownBytes.{Appends}
 use Rattle.std.proofs.KnownBytes.{Appends-trans, Appends-nil}
 use Rattle.sqlite_trees.specs.declared.store.Store.{Ghosts}
 use Rattle.sqlite.specs.Held.{Held}
-use Rattle.gm_metadata.specs.Images.{Image, Sizes}
-use Rattle.gm_shelf.specs.Disk.{View}
+use Rattle.gm_metadata.specs.Images.{Image}
+use Rattle.gm_shelf.specs.declared.shelf.Shelf.{Ghosts as ShelfGhosts}
 use Rattle.gm_commands.specs.declared.command.Command.{Command}
 use Rattle.gm_state.specs.declared.intents.Reply.{Reply}
 use Rattle.gm_state.specs.World.{World}
@@ -282,7 +282,7 @@ last_more u lines line text refused v w before world last answers
       step = step;
     }))
 
-module _ {S H : Type 0} (g : Ghosts S) (view : H → View) (size : H → Sizes) where
+module _ {S H : Type 0} (g : Ghosts S) (j : ShelfGhosts H) where
   -- a line's answer, and where it leaves the bench
   record Replied (q : Progress) (s : Held S) (k : H) (away : Image) (v u : World) (asks : Asked)
       (o : Outcome) : Type 0 where
@@ -290,10 +290,10 @@ module _ {S H : Type 0} (g : Ghosts S) (view : H → View) (size : H → Sizes) 
     pub before : World
     pub replies : Replies u asks world (text_of o) (is_refused o)
     pub from : IsFrom v u before world asks
-    pub stands : Stands g view size q s k away before world
+    pub stands : Stands g j q s k away before world
 
   replied : (q : Progress) (r s : Held S) (h k : H) (away : Image) (v u : World) (asks : Asked)
-      (o : Outcome) → NextComesTo g view size q r s h k away v u asks o → GoesOn o
+      (o : Outcome) → NextComesTo g j q r s h k away v u asks o → GoesOn o
       → Replied q s k away v u asks o
   replied q r s h k away v u asks Nothing comes on = record {
     world = u;
@@ -325,8 +325,8 @@ module _ {S H : Type 0} (g : Ghosts S) (view : H → View) (size : H → Sizes) 
   -- what a request comes to, wherever the bench stands
   abbrev pub Comes : Progress → Progress → Held S → Held S → H → H → Image → Asked → Outcome → Type
       0
-  Comes p q r s h k away asks o = (v u : World) → Stands g view size p r h away v u
-      → NextComesTo g view size q r s h k away v u asks o
+  Comes p q r s h k away asks o = (v u : World) → Stands g j p r h away v u
+      → NextComesTo g j q r s h k away v u asks o
 
   pub comes_so : (p q : Progress) (r s : Held S) (h k : H) (away : Image) (asks x : Asked)
       (o : Outcome) → asks ≡ x → Comes p q r s h k away asks o → Comes p q r s h k away x o
@@ -345,14 +345,14 @@ module _ {S H : Type 0} (g : Ghosts S) (view : H → View) (size : H → Sizes) 
     pub text : List ℕ
     pub left : IsLeft input rest lines
     pub told : Appends before now text
-    pub answered : AreStanding g view size p s k away u lines text refused
+    pub answered : AreStanding g j p s k away u lines text refused
 
   none_taken : (input : Option (List ℕ)) → IsLeft input input []
   none_taken None = tt
   none_taken (Some i) = (i, refl, refl)
 
   pub begun : (p : Progress) (input before : Option (List ℕ)) (s : Held S) (k : H) (away : Image)
-      (u : World) → TakesCommands p → IsAt g view size s k away [] [] u u
+      (u : World) → TakesCommands p → IsAt g j s k away [] [] u u
       → Answering p input input before before s k away u false
   begun p input before s k away u takes at =
       record {
@@ -365,7 +365,7 @@ module _ {S H : Type 0} (g : Ghosts S) (view : H → View) (size : H → Sizes) 
           before = u;
           answers = (refl, refl, refl);
           last = inl refl;
-          stands = stands_rest g view size p s k away u takes at;
+          stands = stands_rest g j p s k away u takes at;
         };
       }
 
@@ -375,8 +375,7 @@ module _ {S H : Type 0} (g : Ghosts S) (view : H → View) (size : H → Sizes) 
       (o : Outcome) : Type 0 where
     pub more : List (List ℕ)
     pub left : IsLeft input new more
-    pub answered : AreStanding g view size q s k away u more (text ++ text_of o)
-        (refused || is_refused o)
+    pub answered : AreStanding g j q s k away u more (text ++ text_of o) (refused || is_refused o)
 
   module _ (p q : Progress) (input rest new before mid : Option (List ℕ)) (r s : Held S) (h k : H)
       (away : Image) (u : World) (refused : Bool) (buffer : List ℕ) (found : Line) (o : Outcome)
@@ -423,7 +422,7 @@ module _ {S H : Type 0} (g : Ghosts S) (view : H → View) (size : H → Sizes) 
 
     -- it isn't told, or not all of it
     pub untold : (Told : List ℕ → Type 0) → GoesOn o → Told (so.text ++ text_of o)
-        → Breaks input Told (AreStanding g view size q s k away u)
+        → Breaks input Told (AreStanding g j q s k away u)
     untold Told on told =
         let next = next_answered on in
         record {
@@ -438,10 +437,10 @@ module _ {S H : Type 0} (g : Ghosts S) (view : H → View) (size : H → Sizes) 
   -- what waits is carried out
   abbrev pub carried : (p : Progress) (s : Held S) (k : H) (away : Image) (u : World)
       (lines : List (List ℕ)) (text : List ℕ) (refused : Bool)
-      → AreStanding g view size p s k away u lines text refused
-      → AreCarriedOut g view size s k away u lines text refused
+      → AreStanding g j p s k away u lines text refused
+      → AreCarriedOut g j s k away u lines text refused
   carried p s k away u lines text refused it =
-      let was = carried_so g view size p s k away it.before it.world it.stands in record {
+      let was = carried_so g j p s k away it.before it.world it.stands in record {
         world = it.world;
         before = it.before;
         answers = it.answers;
@@ -465,11 +464,11 @@ module _ {S H : Type 0} (g : Ghosts S) (view : H → View) (size : H → Sizes) 
         (subst (λ (x : Outcome). Appends mid now (text_of x)) e wrote)
 
     pub stopped : (Told : List ℕ → Type 0) → Told (so.text ++ text_of (Failed key fault))
-        → Stops g view size input Told s k away u fault
+        → Stops g j input Told s k away u fault
     stopped Told told =
         let line = taken input rest new so.lines buffer found so.left is some in
         let came = comes so.answered.before so.answered.world so.answered.stands in
-        let was = carried_so g view size p r h away so.answered.before so.answered.world
+        let was = carried_so g j p r h away so.answered.before so.answered.world
         so.answered.stands in
         record {
           lines = so.lines;
@@ -502,7 +501,7 @@ module _ {S H : Type 0} (g : Ghosts S) (view : H → View) (size : H → Sizes) 
   pub broken : (p : Progress) (input rest before now : Option (List ℕ)) (s : Held S) (k : H)
       (away : Image) (u : World) (refused : Bool) (Told : List ℕ → Type 0)
       (so : Answering p input rest before now s k away u refused) → Told so.text
-      → Breaks input Told (AreStanding g view size p s k away u)
+      → Breaks input Told (AreStanding g j p s k away u)
   broken p input rest before now s k away u refused Told so told =
       record {
         lines = so.lines;
@@ -517,7 +516,7 @@ module _ {S H : Type 0} (g : Ghosts S) (view : H → View) (size : H → Sizes) 
       (away : Image) (u : World) (refused : Bool) (buffer : List ℕ)
       → Answering p input rest before now s k away u refused
       → IfSome rest (λ bytes. IsLine bytes new buffer End)
-      → Ends input before now (AreStanding g view size p s k away u) refused
+      → Ends input before now (AreStanding g j p s k away u) refused
   finished p input rest new before now s k away u refused buffer so is =
       record {
         lines = so.lines;
@@ -536,9 +535,9 @@ module _ {S H : Type 0} (g : Ghosts S) (view : H → View) (size : H → Sizes) 
       → ((key : Bor (List ℕ)) (f : BenchFault) → o ≡ Failed key f → q ≡ progress.Failed)
       → (e ≡ Read → ⊥)
       → AppendsFront mid now (text_of o)
-      → Breaks input (Tells e before now) (AreStanding g view size q s k away u)
+      → Breaks input (Tells e before now) (AreStanding g j q s k away u)
       ⊎ ((f : BenchFault) × (q ≡ progress.Failed)
-      × Stops g view size input (AppendsFront before now) s k away u f)
+      × Stops g j input (AppendsFront before now) s k away u f)
   told_in_part p q input rest new before mid now r s h k away u refused buffer found Nothing e so is
       some comes far not_read wrote =
       inl (untold p q input rest new before mid r s h k away u refused buffer found Nothing so is
@@ -574,8 +573,8 @@ module _ {S H : Type 0} (g : Ghosts S) (view : H → View) (size : H → Sizes) 
       (r s : Held S) (h k : H) (refused : Bool) : Type 0 where
     pub clean : WasClean g r s
     pub stays : honest h → honest k
-    pub sizes : size k ≡ size h
-    pub count : (view h).faults ≤ (view k).faults
+    pub sizes : j.size k ≡ j.size h
+    pub count : (j.view h).faults ≤ (j.view k).faults
     pub does : honest h → DiskKept g s → (away : Image) (u : World)
-        → IsAt g view size r h away [] [] u u
+        → IsAt g j r h away [] [] u u
         → Answering p input rest before now s k away u refused

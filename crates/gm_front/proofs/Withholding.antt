@@ -4,8 +4,7 @@ use Rattle.std.specs.Prelude.{IfOk, IfErr, OnErr}
 use Rattle.std.specs.Io.KnownBytes.{Appends}
 use Rattle.sqlite_trees.specs.declared.store.Store.{Ghosts}
 use Rattle.sqlite.specs.Held.{Held}
-use Rattle.gm_metadata.specs.Images.{Image, Sizes}
-use Rattle.gm_shelf.specs.Disk.{View}
+use Rattle.gm_metadata.specs.Images.{Image}
 use Rattle.gm_shelf.specs.declared.shelf.Shelf.{Ghosts as ShelfGhosts}
 use Rattle.gm_commands.specs.declared.command.Command.{Command}
 use Rattle.gm_state.specs.World.{World}
@@ -28,11 +27,11 @@ use Rattle.gm_front.specs.Services.{bytes_of, code_told}
 use Rattle.gm_front.proofs.RequestsServed.{served}
 
 -- what a look that failed leaves, a command may leave that isn't accepted
-pub run_of_look : {S H : Type 0} (g : Ghosts S) (view : H → View) (size : H → Sizes) (r s : Held S)
+pub run_of_look : {S H : Type 0} (g : Ghosts S) (j : ShelfGhosts H) (r s : Held S)
     (h k : H) (away : Image) (u : World) (key : List ℕ) (c : Command)
-    → LeavesOnly g view size r s h k away u u → size k ≡ size h
-    → LeavesRun g view size r s h k away u u key c
-run_of_look g view size r s h k away u key c left same = record {
+    → LeavesOnly g j r s h k away u u → j.size k ≡ j.size h
+    → LeavesRun g j r s h k away u u key c
+run_of_look g j r s h k away u key c left same = record {
   registry = s;
   shelf = k;
   sizes = same;
@@ -99,7 +98,7 @@ module _ {S H : Type 0} (s : Ghosts S) (h : ShelfGhosts H) (old new : Bench S H)
           nothing = λ e. absurd (let no : ⊥ = cc in no);
           mid = found.mid;
           looked = found.looked;
-          serves = served s h.view h.size input before now (registry_of found.mid)
+          serves = served s h input before now (registry_of found.mid)
               (registry_of new) (shelf_of found.mid) (shelf_of new) away u asked asks
               (finding.Failed failed) told found.comes wrote front fault;
         }))
@@ -110,7 +109,7 @@ module _ {S H : Type 0} (s : Ghosts S) (h : ShelfGhosts H) (old new : Bench S H)
           nothing = λ e. had;
           mid = found.mid;
           looked = found.looked;
-          serves = served s h.view h.size input before now (registry_of found.mid)
+          serves = served s h input before now (registry_of found.mid)
               (registry_of new) (shelf_of found.mid) (shelf_of new) away u asked asks it told
               found.comes wrote front fault;
         }))

@@ -3,8 +3,7 @@ use Rattle.std.specs.Prelude.{◌≡◌, ◌≢◌, ◌⊎◌, ◌<◌, ◌||◌
 use Rattle.std.specs.Io.KnownBytes.{Appends}
 use Rattle.sqlite_trees.specs.declared.store.Store.{Ghosts}
 use Rattle.sqlite.specs.Held.{Held}
-use Rattle.gm_metadata.specs.Images.{Image, Sizes}
-use Rattle.gm_shelf.specs.Disk.{View}
+use Rattle.gm_metadata.specs.Images.{Image}
 use Rattle.gm_shelf.specs.declared.shelf.Shelf.{Ghosts as ShelfGhosts}
 use Rattle.gm_commands.specs.declared.command.Command.{Command}
 use Rattle.gm_state.specs.declared.intents.Intent.{Intent}
@@ -142,14 +141,14 @@ pub record Breaks (input : Option (List ℕ)) (Told : List ℕ → Type 0)
   pub told : Told text
   pub answered : Answered lines text refused
 
-module _ {S H : Type 0} (g : Ghosts S) (view : H → View) (size : H → Sizes) where
+module _ {S H : Type 0} (g : Ghosts S) (j : ShelfGhosts H) where
   -- The lines were answered in turn from the world u on, and the bench is at rest in the world that
   -- they reach.
   pub record AreAnswered (s : Held S) (k : H) (away : Image) (u : World) (lines : List (List ℕ))
       (text : List ℕ) (refused : Bool) : Type 0 where
     pub world : World
     pub answers : Answers u lines world text refused
-    pub at : IsAt g view size s k away [] [] world world
+    pub at : IsAt g j s k away [] [] world world
 
   -- The lines were answered in turn from the world u on, and carried out; the last command of them
   -- that was done is perhaps still to be settled.
@@ -161,7 +160,7 @@ module _ {S H : Type 0} (g : Ghosts S) (view : H → View) (size : H → Sizes) 
     pub last : IsLast u lines before world
     pub intents : List Intent
     pub bytes : List (List ℕ)
-    pub at : IsCarriedOut g view size s k away intents bytes before world
+    pub at : IsCarriedOut g j s k away intents bytes before world
 
   -- So they were, and the bench, which is so far, stands for the world that they reach.
   pub record AreStanding (p : Progress) (s : Held S) (k : H) (away : Image) (u : World)
@@ -170,7 +169,7 @@ module _ {S H : Type 0} (g : Ghosts S) (view : H → View) (size : H → Sizes) 
     pub before : World
     pub answers : Answers u lines world text refused
     pub last : IsLast u lines before world
-    pub stands : Stands g view size p s k away before world
+    pub stands : Stands g j p s k away before world
 
   -- So they were, and the bench failed as it settled the last command.
   pub record AreUnsettled (s : Held S) (k : H) (away : Image) (u : World) (lines : List (List ℕ))
@@ -178,7 +177,7 @@ module _ {S H : Type 0} (g : Ghosts S) (view : H → View) (size : H → Sizes) 
     pub registry : Held S
     pub shelf : H
     pub carried : AreCarriedOut registry shelf away u lines text refused
-    pub left : LeavesOnly g view size registry s shelf k away carried.before carried.world
+    pub left : LeavesOnly g j registry s shelf k away carried.before carried.world
 
   -- The bench failed at the command of a line, after those before it were answered.
   pub record Stops (input : Option (List ℕ)) (Told : List ℕ → Type 0) (s : Held S) (k : H)
@@ -195,9 +194,8 @@ module _ {S H : Type 0} (g : Ghosts S) (view : H → View) (size : H → Sizes) 
     pub asks : asked line ≡ Call key command
     pub answered : AreCarriedOut registry shelf away u lines text refused
     pub told : Told (text ++ fault_line key fault)
-    pub left : LeavesNext g view size registry s shelf k away answered.before answered.world key
-        command
-    pub disk : fault ≡ Disk → (view shelf).faults < (view k).faults
+    pub left : LeavesNext g j registry s shelf k away answered.before answered.world key command
+    pub disk : fault ≡ Disk → (j.view shelf).faults < (j.view k).faults
     pub store : fault ≡ Store → HasRoom most_rows (seen g registry) → StoreFailed g registry s
     pub readable : fault ≡ Unreadable → AreWrittenUnder key answered.at.tables → ⊥
 
@@ -231,8 +229,8 @@ pub record AnswersBatch {S H : Type 0} (s : Ghosts S) (h : ShelfGhosts H)
     (input before now : Option (List ℕ)) (old new : Bench S H)
     (result : Result BatchEnd FrontFault) : Type 0 where
   pub does : h.honest (shelf_of old) → DiskKept s (registry_of new) → (away : Image) (u : World)
-      → IsAt s h.view h.size (registry_of old) (shelf_of old) away [] [] u u
-      → Batches s h.view h.size input before now (registry_of new) (shelf_of new) away u result
+      → IsAt s h (registry_of old) (shelf_of old) away [] [] u u
+      → Batches s h input before now (registry_of new) (shelf_of new) away u result
   pub progress : IfOk result (λ end. progress_of new ≡ progress_at (progress_of old) end)
   pub phase : TakesCommands (progress_of new)
   pub closes : KeepsClosed old new (end_fault result)

@@ -4,7 +4,7 @@ use Rattle.std.specs.Prelude.{◌≡◌, ◌⊎◌, ℕ, List, [], ◌∷◌, �
 use Rattle.sqlite_trees.specs.declared.store.Store.{Ghosts}
 use Rattle.sqlite.specs.Held.{Held}
 use Rattle.gm_metadata.specs.Images.{Image, Sizes}
-use Rattle.gm_shelf.specs.Disk.{View}
+use Rattle.gm_shelf.specs.declared.shelf.Shelf.{Ghosts as ShelfGhosts}
 use Rattle.gm_rules.specs.AbstractCalls as run
 use Rattle.gm_bench.specs.Schedule.{Entry}
 use Rattle.gm_front.specs.declared.answer_lines.BatchEnd.{BatchEnd}
@@ -25,7 +25,7 @@ abbrev pub calls_of : List (List ℕ) → List run.Call
 calls_of [] = []
 calls_of (line ∷ lines) = with_asked (asked line) (calls_of lines)
 
-module _ {S H : Type 0} (g : Ghosts S) (view : H → View) (size : H → Sizes) (all : Sizes) where
+module _ {S H : Type 0} (g : Ghosts S) (j : ShelfGhosts H) (all : Sizes) where
   -- The bench failed at the call of some line, after those of the lines before it.
   pub record StopsAtLine (input : Option (List ℕ)) (s : Held S) (k : H) (away : Image)
       (acc ack : List Entry) : Type 0 where
@@ -36,18 +36,18 @@ module _ {S H : Type 0} (g : Ghosts S) (view : H → View) (size : H → Sizes) 
     pub asks : asked line ≡ Call call.key call.command
     pub registry : Held S
     pub shelf : H
-    pub behind : AreCarriedBehind g view size all (calls_of lines) registry shelf away acc ack
-    pub stopped : IsStoppedNext g view size all call registry s shelf k away behind.before
+    pub behind : AreCarriedBehind g j all (calls_of lines) registry shelf away acc ack
+    pub stopped : IsStoppedNext g j all call registry s shelf k away behind.before
         behind.world (with_calls behind.calls acc) (with_calls behind.calls ack)
 
   -- what a batch leaves of a bench that was at rest after these entries
   abbrev pub BatchLeaves : Option (List ℕ) → Held S → H → Image → List Entry → List Entry
       → Result BatchEnd FrontFault → Type 0
   BatchLeaves input s k away acc ack (Ok (end.Ended refused)) = (lines : List (List ℕ))
-      × AreLines input lines × IsAtRestBehind g view size all (calls_of lines) s k away acc ack
+      × AreLines input lines × IsAtRestBehind g j all (calls_of lines) s k away acc ack
   BatchLeaves input s k away acc ack (Ok (end.Stopped fault)) = StopsAtLine input s k away acc ack
   BatchLeaves input s k away acc ack (Err fault) =
       ((lines : List (List ℕ)) × AreFirst input lines
-      × IsAtRestBehind g view size all (calls_of lines) s k away acc ack)
+      × IsAtRestBehind g j all (calls_of lines) s k away acc ack)
       ⊎ (StopsAtLine input s k away acc ack ⊎ ((lines : List (List ℕ)) × AreFirst input lines
-      × IsStoppedSettling g view size all (calls_of lines) s k away acc ack))
+      × IsStoppedSettling g j all (calls_of lines) s k away acc ack))

@@ -3,8 +3,7 @@ use Rattle.std.specs.Prelude.{◌≡◌, ◌<◌, List, [], Option, Some, None, 
 use Rattle.std.specs.String.{string_bytes}
 use Rattle.sqlite_trees.specs.declared.store.Store.{Ghosts}
 use Rattle.sqlite.specs.Held.{Held}
-use Rattle.gm_metadata.specs.Images.{Image, Sizes}
-use Rattle.gm_shelf.specs.Disk.{View}
+use Rattle.gm_metadata.specs.Images.{Image}
 use Rattle.gm_shelf.specs.declared.shelf.Shelf.{Ghosts as ShelfGhosts}
 use Rattle.gm_state.specs.Rows.{Tables}
 use Rattle.gm_state.specs.World.{World}
@@ -14,8 +13,9 @@ use Rattle.gm_registry.specs.Replies.{AreWrittenUnder}
 use Rattle.gm_looks.specs.declared.unlike.Unlike.{Unlike}
 use Rattle.gm_bench.specs.declared.fault.BenchFault.{BenchFault}
 use Rattle.gm_bench.specs.declared.fault.BenchFault.TheVariants.{Disk, Store, Unreadable}
-use Rattle.gm_bench.specs.Benches.{registry_of, shelf_of}
-use Rattle.gm_bench.specs.Calls.{most_rows}
+use Rattle.gm_bench.specs.Benches.{progress_of, registry_of, shelf_of}
+use Rattle.gm_bench.specs.Calls.{Keep, most_rows}
+use Rattle.gm_bench.specs.Phases.{TakesCommands}
 use Rattle.gm_bench.specs.declared.bench.Bench.{Bench}
 use Rattle.gm_bench.specs.declared.phase.Progress.{Progress}
 use Rattle.gm_bench.specs.declared.phase.Progress.TheVariants as progress
@@ -27,6 +27,7 @@ use Rattle.gm_front.specs.declared.demand.Demand.TheVariants as held
 use Rattle.gm_front.specs.declared.finding.Finding.{Finding}
 use Rattle.gm_front.specs.declared.finding.Finding.TheVariants as finding
 use Rattle.gm_front.specs.declared.finding.Told.{Told as Held_told}
+use Rattle.gm_front.specs.Closing.{KeepsClosed}
 use Rattle.gm_front.specs.Guards.{withheld_message}
 use Rattle.gm_http.specs.declared.status.Status.TheVariants as status
 use Rattle.gm_json.specs.Answers.{error_json}
@@ -92,26 +93,36 @@ abbrev pub TellsStoreAt : {S H : Type 0} → Ghosts S → ShelfGhosts H → Benc
     → Option BenchFault → Type 0
 TellsStoreAt s h old new fault = h.honest (shelf_of old) → DiskKept s (registry_of new)
     → (away : Image) (u : World)
-    → IsAt s h.view h.size (registry_of old) (shelf_of old) away [] [] u u
+    → IsAt s h (registry_of old) (shelf_of old) away [] [] u u
     → fault ≡ Some Store → HasRoom most_rows (seen s (registry_of old))
     → StoreFailed s (registry_of old) (registry_of new)
 
+-- What is left of a bench that was asked at most once, by the fault that it told: it takes commands
+-- as before unless it failed, and both media are kept.
+pub record LeavesBench {S H : Type 0} (s : Ghosts S) (h : ShelfGhosts H) (old new : Bench S H)
+    (fault : Option BenchFault) : Type 0 where
+  pub progress : progress_of new ≡ progress_behind (progress_of old) fault
+  pub phase : TakesCommands (progress_of new)
+  pub closes : KeepsClosed old new fault
+  pub store : TellsStoreAt s h old new fault
+  pub keep : Keep s h (registry_of old) (registry_of new) (shelf_of old) (shelf_of new)
+
 -- What stands between the start, with the registry r and the shelf h, and the end, with s and k.
-module _ {S H : Type 0} (g : Ghosts S) (view : H → View) (size : H → Sizes) where
+module _ {S H : Type 0} (g : Ghosts S) (j : ShelfGhosts H) where
   -- what a demand may leave that the bench failed at: a command what a run may leave, any other
   -- what leads on as before
   abbrev pub LeavesDemand : Held S → Held S → H → H → Image → World → Demand → Type 0
   LeavesDemand r s h k away u (Carry key command) =
-      LeavesRun g view size r s h k away u u key command
-  LeavesDemand r s h k away u _ = LeavesOnly g view size r s h k away u u
+      LeavesRun g j r s h k away u u key command
+  LeavesDemand r s h k away u _ = LeavesOnly g j r s h k away u u
 
   -- The bench failed at the demand: what that may have left, that a failure of the disk was
   -- counted, and that what this program wrote was read.
   pub record Fails (r s : Held S) (h k : H) (away : Image) (u : World) (demand : Demand)
       (fault : BenchFault) : Type 0 where
     pub left : LeavesDemand r s h k away u demand
-    pub disk : fault ≡ Disk → (view h).faults < (view k).faults
-    pub readable : fault ≡ Unreadable → (at : IsAt g view size r h away [] [] u u)
+    pub disk : fault ≡ Disk → (j.view h).faults < (j.view k).faults
+    pub readable : fault ≡ Unreadable → (at : IsAt g j r h away [] [] u u)
         → AreWrittenFor demand at.tables → ⊥
 
   -- The demand is responded to so, and the bench is at rest in the world that this leaves.
@@ -119,7 +130,7 @@ module _ {S H : Type 0} (g : Ghosts S) (view : H → View) (size : H → Sizes) 
       (told : Told) : Type 0 where
     pub world : World
     pub responds : Responds u demand world told
-    pub at : IsAt g view size s k away [] [] world world
+    pub at : IsAt g j s k away [] [] world world
 
   -- what a demand comes to at rest in u
   abbrev pub ComesToFinding : Held S → Held S → H → H → Image → World → Demand → Finding → Type 0

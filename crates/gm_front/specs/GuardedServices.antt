@@ -41,8 +41,7 @@ module _ {S H : Type 0} (s : StoreGhosts S) (h : ShelfGhosts H) (old new : Bench
     pub carry : demand ≡ Carry key command
     pub some : list ≢ []
     pub stood : StoodInTheWay s h old key command list
-    pub looked : LookDoes s h.view h.size (registry_of old) (registry_of new) (shelf_of old)
-        (shelf_of new)
+    pub looked : LookDoes s h (registry_of old) (registry_of new) (shelf_of old) (shelf_of new)
 
   -- the command that is demanded, if one is, had nothing in its way
   abbrev pub HasNothingInTheWay : Demand → Type 0
@@ -60,18 +59,17 @@ module _ {S H : Type 0} (s : StoreGhosts S) (h : ShelfGhosts H) (old new : Bench
       → Option BenchFault → Type 0
   IsUnserved before now (Ok code) fault = ⊥
   IsUnserved before now (Err Write) fault = ⊥
-  IsUnserved before now (Err Read) fault = LeavesAll s h.view h.size before now
+  IsUnserved before now (Err Read) fault = LeavesAll s h before now
       (registry_of old) (registry_of new) (shelf_of old) (shelf_of new) fault
-  IsUnserved before now (Err Memory) fault = LeavesAll s h.view h.size before now
+  IsUnserved before now (Err Memory) fault = LeavesAll s h before now
       (registry_of old) (registry_of new) (shelf_of old) (shelf_of new) fault
 
   module _ (away : Image) (u : World) where
     -- After a look the demand came to this.
     pub record FoundBehindLook (demand : Demand) (finding : Finding) : Type 0 where
       pub mid : Bench S H
-      pub looked : LookDoes s h.view h.size (registry_of old) (registry_of mid) (shelf_of old)
-          (shelf_of mid)
-      pub comes : ComesToFinding s h.view h.size (registry_of mid) (registry_of new)
+      pub looked : LookDoes s h (registry_of old) (registry_of mid) (shelf_of old) (shelf_of mid)
+      pub comes : ComesToFinding s h (registry_of mid) (registry_of new)
           (shelf_of mid) (shelf_of new) away u demand finding
 
     -- what a demand comes to, unless it is a command that is withheld
@@ -87,9 +85,8 @@ module _ {S H : Type 0} (s : StoreGhosts S) (h : ShelfGhosts H) (old new : Bench
       pub asks : IfSome input (λ bytes. Asks bytes asked)
       pub nothing : fault ≡ None → HasNothingInTheWay (demand_of asked)
       pub mid : Bench S H
-      pub looked : LookDoes s h.view h.size (registry_of old) (registry_of mid) (shelf_of old)
-          (shelf_of mid)
-      pub serves : Serves s h.view h.size input before now (registry_of mid) (registry_of new)
+      pub looked : LookDoes s h (registry_of old) (registry_of mid) (shelf_of old) (shelf_of mid)
+      pub serves : Serves s h input before now (registry_of mid) (registry_of new)
           (shelf_of mid) (shelf_of new) away u result fault
 
   -- The request asks for a command that isn't handed in, and that is told.

@@ -82,11 +82,10 @@ module _ {S H : Type 0} (s : StoreGhosts S) (h : ShelfGhosts H) (old new : Bench
   pub record OnlyLooks {T : Type 0} (result : Result T BenchFault) : Type 0 where
     pub stays : OnOk result (progress_of new ≡ progress_of old)
     pub does : h.honest (shelf_of old) → DiskKept s (registry_of new)
-        → OnOk result (LookDoes s h.view h.size (registry_of old) (registry_of new)
+        → OnOk result (LookDoes s h (registry_of old) (registry_of new)
         (shelf_of old) (shelf_of new))
     pub leaves : h.honest (shelf_of old) → DiskKept s (registry_of new)
-        → LookLeaves s h.view h.size (registry_of old) (registry_of new)
-        (shelf_of old) (shelf_of new)
+        → LookLeaves s h (registry_of old) (registry_of new) (shelf_of old) (shelf_of new)
     pub read : h.honest (shelf_of old) → DiskKept s (registry_of new)
         → OnOk result ((t : Tables) → HasTables s (registry_of old) t
         → WasRead s (registry_of old) (registry_of new))
@@ -110,7 +109,7 @@ IsGuarded s h old new asks (Through outcome) = (key : List ℕ) (command : Comma
     → asks ≡ Call key command → StoodInTheWay s h old key command []
 IsGuarded s h old new asks (Withheld key list) = (command : Command) × (asks ≡ Call key.now command)
     × (list.items ≢ []) × StoodInTheWay s h old key.now command list.items
-    × LookDoes s h.view h.size (registry_of old) (registry_of new) (shelf_of old) (shelf_of new)
+    × LookDoes s h (registry_of old) (registry_of new) (shelf_of old) (shelf_of new)
 IsGuarded s h old new asks (Unlooked key fault) =
     (command : Command) × (asks ≡ Call key.now command)
 
@@ -119,24 +118,23 @@ module _ {S H : Type 0} (s : StoreGhosts S) (h : ShelfGhosts H) (old new : Bench
   -- What a request came to after a look.
   pub record ComesBehindLook (asks : Asked) (outcome : Outcome) : Type 0 where
     pub mid : Bench S H
-    pub looked : LookDoes s h.view h.size (registry_of old) (registry_of mid) (shelf_of old)
-        (shelf_of mid)
-    pub comes : ComesTo s h.view h.size (registry_of mid) (registry_of new) (shelf_of mid)
+    pub looked : LookDoes s h (registry_of old) (registry_of mid) (shelf_of old) (shelf_of mid)
+    pub comes : ComesTo s h (registry_of mid) (registry_of new) (shelf_of mid)
         (shelf_of new) away u asks outcome
 
   -- The look failed: what it left leads on as before, a failure of the disk was counted, and what
   -- this program wrote was read.
   pub record FailsLook (key : List ℕ) (fault : BenchFault) : Type 0 where
-    pub left : LeavesOnly s h.view h.size (registry_of old) (registry_of new) (shelf_of old)
+    pub left : LeavesOnly s h (registry_of old) (registry_of new) (shelf_of old)
         (shelf_of new) away u u
     pub disk : fault ≡ Disk → (h.view (shelf_of old)).faults < (h.view (shelf_of new)).faults
     pub readable : fault ≡ Unreadable
-        → (at : IsAt s h.view h.size (registry_of old) (shelf_of old) away [] [] u u)
+        → (at : IsAt s h (registry_of old) (shelf_of old) away [] [] u u)
         → AreWrittenUnder key at.tables → ⊥
 
   -- what a guarded request comes to at rest in u
   abbrev pub ComesToGuarded : Asked → Guarded → Type 0
   ComesToGuarded asks (Through outcome) = ComesBehindLook asks outcome
   ComesToGuarded asks (Withheld key list) =
-      IsAt s h.view h.size (registry_of new) (shelf_of new) away [] [] u u
+      IsAt s h (registry_of new) (shelf_of new) away [] [] u u
   ComesToGuarded asks (Unlooked key fault) = FailsLook key.now fault

@@ -1,9 +1,9 @@
 -- Requests and outcomes, as the code holds them.
-use Rattle.std.specs.Prelude.{◌≡◌, ◌≢◌, ◌⊎◌, ◌<◌, ℕ, Bool, true, false, List, []}
+use Rattle.std.specs.Prelude.{◌≡◌, ◌≢◌, ◌⊎◌, ◌<◌, ℕ, Bool, true, false, List, [], Result, OnOk}
 use Rattle.sqlite_trees.specs.declared.store.Store.{Ghosts}
 use Rattle.sqlite.specs.Held.{Held}
-use Rattle.gm_metadata.specs.Images.{Image, Sizes}
-use Rattle.gm_shelf.specs.Disk.{View}
+use Rattle.gm_metadata.specs.Images.{Image}
+use Rattle.gm_shelf.specs.declared.shelf.Shelf.{Ghosts as ShelfGhosts}
 use Rattle.gm_commands.specs.declared.command.Command.{Command}
 use Rattle.gm_state.specs.World.{World}
 use Rattle.gm_registry.specs.Fitting.{HasRoom}
@@ -48,15 +48,15 @@ IsWaiting v u before (Done n reply) = before ≡ u
 IsWaiting v u before (Repeated n reply) = before ≡ v
 IsWaiting v u before (Refused why) = before ≡ v
 
-module _ {S H : Type 0} (g : Ghosts S) (view : H → View) (size : H → Sizes) where
+module _ {S H : Type 0} (g : Ghosts S) (j : ShelfGhosts H) where
   -- A command that failed: what it may have left, that a failure of the disk was counted, that the
   -- store failed if it is told, and that what this program wrote was read.
   pub record FailsAt (r s : Held S) (h k : H) (away : Image) (u : World) (key : List ℕ)
       (command : Command) (fault : BenchFault) : Type 0 where
-    pub left : LeavesRun g view size r s h k away u u key command
-    pub disk : fault ≡ Disk → (view h).faults < (view k).faults
+    pub left : LeavesRun g j r s h k away u u key command
+    pub disk : fault ≡ Disk → (j.view h).faults < (j.view k).faults
     pub store : fault ≡ Store → HasRoom most_rows (seen g r) → StoreFailed g r s
-    pub readable : fault ≡ Unreadable → (at : IsAt g view size r h away [] [] u u)
+    pub readable : fault ≡ Unreadable → (at : IsAt g j r h away [] [] u u)
         → AreWrittenUnder key at.tables → ⊥
 
   -- what a request comes to at rest in u, from the registry r and the shelf h to s and k
@@ -65,7 +65,7 @@ module _ {S H : Type 0} (g : Ghosts S) (view : H → View) (size : H → Sizes) 
   ComesTo r s h k away u asks (outcome.Wrong key) = (asks ≡ Wrong key.now) × (s ≡ r) × (k ≡ h)
   ComesTo r s h k away u asks (outcome.Answered key answer) =
       (command : Command) × (asks ≡ Call key.now command)
-      × IsRun g view size s k away u key.now command answer
+      × IsRun g j s k away u key.now command answer
   ComesTo r s h k away u asks (outcome.Failed key fault) =
       (command : Command) × (asks ≡ Call key.now command)
       × FailsAt r s h k away u key.now command fault
@@ -79,31 +79,39 @@ module _ {S H : Type 0} (g : Ghosts S) (view : H → View) (size : H → Sizes) 
     pub before : World
     pub calls : run.Calls u (record { key = key; command = command }) world (answer_of answer)
     pub waits : (before ≡ world) ⊎ IsWaiting v u before answer
-    pub stands : Stands g view size p s k away before world
+    pub stands : Stands g j p s k away before world
 
   -- A command that failed at a bench that stood for u, and v was before.
   pub record FailsNext (r s : Held S) (h k : H) (away : Image) (v u : World) (key : List ℕ)
       (command : Command) (fault : BenchFault) : Type 0 where
-    pub left : LeavesNext g view size r s h k away v u key command
-    pub disk : fault ≡ Disk → (view h).faults < (view k).faults
+    pub left : LeavesNext g j r s h k away v u key command
+    pub disk : fault ≡ Disk → (j.view h).faults < (j.view k).faults
     pub store : fault ≡ Store → HasRoom most_rows (seen g r) → StoreFailed g r s
     pub readable : fault ≡ Unreadable → (ts : List Intent) (bytes : List (List ℕ))
-        → (at : IsCarriedOut g view size r h away ts bytes v u) → AreWrittenUnder key at.tables → ⊥
+        → (at : IsCarriedOut g j r h away ts bytes v u) → AreWrittenUnder key at.tables → ⊥
 
   -- what a request comes to if a bench stands for u and v was before, from the registry r and the
   -- shelf h to s and k, after which the bench is so far
   abbrev pub NextComesTo : Progress → Held S → Held S → H → H → Image → World → World → Asked
       → Outcome → Type 0
   NextComesTo p r s h k away v u asks outcome.Nothing =
-      (asks ≡ Nothing) × Stands g view size p s k away v u
+      (asks ≡ Nothing) × Stands g j p s k away v u
   NextComesTo p r s h k away v u asks (outcome.Wrong key) =
-      (asks ≡ Wrong key.now) × Stands g view size p s k away v u
+      (asks ≡ Wrong key.now) × Stands g j p s k away v u
   NextComesTo p r s h k away v u asks (outcome.Answered key answer) =
       (command : Command) × (asks ≡ Call key.now command)
       × IsAnsweredNext p s k away v u key.now command answer
   NextComesTo p r s h k away v u asks (outcome.Failed key fault) =
       (command : Command) × (asks ≡ Call key.now command)
       × FailsNext r s h k away v u key.now command fault
+
+-- How far a bench is after a command: if that was answered, the bench hasn't failed, takes the
+-- next one, and unless a command follows has nothing to settle.
+pub record IsFarOn {T : Type 0} (p q : Progress) (follows : Bool) (result : Result T BenchFault)
+    : Type 0 where
+  pub phase : OnOk result (TakesNext q)
+  pub goes_on : OnOk result ((p ≢ Failed) × (q ≢ Failed))
+  pub rests : follows ≡ false → OnOk result (q ≡ Ready)
 
 -- how far a bench is after a request: one that answered a command hasn't failed, takes the next,
 -- and unless a command follows has nothing to settle

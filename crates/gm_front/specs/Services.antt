@@ -3,8 +3,7 @@ use Rattle.std.specs.Prelude.{◌≡◌, ◌⊎◌, ℕ, List, [], Option, Some,
 use Rattle.std.specs.Io.KnownBytes.{Appends, Keeps}
 use Rattle.sqlite_trees.specs.declared.store.Store.{Ghosts}
 use Rattle.sqlite.specs.Held.{Held}
-use Rattle.gm_metadata.specs.Images.{Image, Sizes}
-use Rattle.gm_shelf.specs.Disk.{View}
+use Rattle.gm_metadata.specs.Images.{Image}
 use Rattle.gm_shelf.specs.declared.shelf.Shelf.{Ghosts as ShelfGhosts}
 use Rattle.gm_state.specs.World.{World}
 use Rattle.gm_registry.specs.Registry.{DiskKept}
@@ -46,13 +45,13 @@ TurnsAway before now (Err Read) = Keeps before now
 TurnsAway before now (Err Memory) = AppendsFront before now (bytes_of page_told)
 TurnsAway before now (Err Write) = AppendsFront before now (bytes_of page_told)
 
-module _ {S H : Type 0} (g : Ghosts S) (view : H → View) (size : H → Sizes) where
+module _ {S H : Type 0} (g : Ghosts S) (j : ShelfGhosts H) where
   -- The request was responded to.
   pub record Responded (input : Option (List ℕ)) (Wrote : List ℕ → Type 0) (s : Held S) (k : H)
       (away : Image) (u : World) (told : Told) : Type 0 where
     pub asked : Asked
     pub asks : IfSome input (λ bytes. Asks bytes asked)
-    pub found : IsFound g view size s k away u (demand_of asked) told
+    pub found : IsFound g j s k away u (demand_of asked) told
     pub wrote : Wrote (bytes_of told)
 
   -- The bench failed at what the request demands, and its fault is told.
@@ -60,7 +59,7 @@ module _ {S H : Type 0} (g : Ghosts S) (view : H → View) (size : H → Sizes) 
       (away : Image) (u : World) (fault : BenchFault) : Type 0 where
     pub asked : Asked
     pub asks : IfSome input (λ bytes. Asks bytes asked)
-    pub failed : Fails g view size r s h k away u (demand_of asked) fault
+    pub failed : Fails g j r s h k away u (demand_of asked) fault
     pub wrote : Wrote (bytes_of (fault_told fault))
 
   -- what is told: a response if the bench didn't fail, else the fault at which it did
@@ -106,8 +105,8 @@ pub record ServesOne {S H : Type 0} (s : Ghosts S) (h : ShelfGhosts H)
     (result : Result ℕ FrontFault) : Type 0 where
   pub fault : Option BenchFault
   pub does : h.honest (shelf_of old) → DiskKept s (registry_of new) → (away : Image) (u : World)
-      → IsAt s h.view h.size (registry_of old) (shelf_of old) away [] [] u u
-      → Serves s h.view h.size input before now (registry_of old) (registry_of new)
+      → IsAt s h (registry_of old) (shelf_of old) away [] [] u u
+      → Serves s h input before now (registry_of old) (registry_of new)
       (shelf_of old) (shelf_of new) away u result fault
   pub progress : progress_of new ≡ progress_behind (progress_of old) fault
   pub closes : KeepsClosed old new fault

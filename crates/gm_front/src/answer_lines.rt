@@ -171,8 +171,8 @@ fn answer_lines<R: BufRead, W: Write, S: Alter, H: Shelf, L: Listener>(
     requires room { length line.old ≡ 131072 }
     ensures does { H.honest (shelf_of bench.old) → DiskKept S.Store (registry_of bench.new)
         → (away : Image) (u : World)
-        → IsAt S.Store H.view H.size (registry_of bench.old) (shelf_of bench.old) away [] [] u u
-        → HandsIn S.Store H.view H.size (progress_of bench.new) (R.remaining reader.old)
+        → IsAt S.Store H.Shelf (registry_of bench.old) (shelf_of bench.old) away [] [] u u
+        → HandsIn S.Store H.Shelf (progress_of bench.new) (R.remaining reader.old)
         (W.contents writer.old) (W.contents writer.new)
         (registry_of bench.new) (shelf_of bench.new) away u result }
     ensures progress { IfOk result (IsFarAtEnd (progress_of bench.old) (progress_of bench.new)) }
@@ -227,9 +227,9 @@ fn settled<S: Alter, H: Shelf>(
     requires { TakesNext (progress_of bench.old) }
     ensures does { H.honest (shelf_of bench.old) → DiskKept S.Store (registry_of bench.new)
         → (input before now : Option (List ℕ)) (away : Image) (u : World)
-        → HandsIn S.Store H.view H.size (progress_of bench.old) input before now
+        → HandsIn S.Store H.Shelf (progress_of bench.old) input before now
         (registry_of bench.old) (shelf_of bench.old) away u end
-        → Batches S.Store H.view H.size input before now
+        → Batches S.Store H.Shelf input before now
         (registry_of bench.new) (shelf_of bench.new) away u result }
     ensures phase { TakesCommands (progress_of bench.new) }
     ensures ended { IfOk result (λ b. end ≡ Ok b) }

@@ -194,8 +194,8 @@ pub(crate) fn find<S: Alter, H: Shelf>(
     requires { TakesCommands (progress_of bench.old) }
     ensures comes { H.honest (shelf_of bench.old) → DiskKept S.Store (registry_of bench.new)
         → (away : Image) (u : World)
-        → IsAt S.Store H.view H.size (registry_of bench.old) (shelf_of bench.old) away [] [] u u
-        → ComesToFinding S.Store H.view H.size (registry_of bench.old) (registry_of bench.new)
+        → IsAt S.Store H.Shelf (registry_of bench.old) (shelf_of bench.old) away [] [] u u
+        → ComesToFinding S.Store H.Shelf (registry_of bench.old) (registry_of bench.new)
         (shelf_of bench.old) (shelf_of bench.new) away u (demand_in demand.now) result }
     ensures put { IsPut result }
     ensures progress { progress_of bench.new

@@ -20,7 +20,7 @@ ghost use Rattle.gm_front.specs.Guards.{ComesToGuarded, IsGuarded, OnlyLooks, St
 ghost use Rattle.gm_lines.specs.Asked.{asked_of};
 
 use crate::outcome::{Outcome, ask};
-use gm_bench::{Bench, BenchFault};
+use gm_bench::{Bench, BenchFault, Watch};
 use gm_commands::Command;
 use gm_lines::{Request, shown};
 use gm_looks::Unlike;
@@ -70,16 +70,18 @@ pub fn in_the_way<S: Alter, H: Shelf>(
 }
 
 /// Asks the bench what a line asks, in phase Ready or Failed; but a command isn't handed in if
-/// images that it is about aren't as they are registered.
-pub fn ask_guarded<'a, S: Alter, H: Shelf>(
+/// images that it is about aren't as they are registered. The watch is told how far data are
+/// compared, which `adopt` does.
+pub fn ask_guarded<'a, S: Alter, H: Shelf, W: Watch>(
     alloc: Global,
     bench: &mut Bench<S, H>,
     request: &Request<'a>,
+    watch: &mut W,
 ) -> Guarded<'a>
     requires { TakesCommands (progress_of bench.old) }
     ensures comes { H.honest (shelf_of bench.old) → DiskKept S.Store (registry_of bench.new)
         → (away : Image) (u : World)
-        → IsAt S.Store H.view H.size (registry_of bench.old) (shelf_of bench.old) away [] [] u u
+        → IsAt S.Store H.Shelf (registry_of bench.old) (shelf_of bench.old) away [] [] u u
         → ComesToGuarded S.Store H.Shelf bench.old bench.new away u (asked_of request.now)
         result }
     ensures guarded { H.honest (shelf_of bench.old) → DiskKept S.Store (registry_of bench.new)
@@ -92,10 +94,10 @@ pub fn ask_guarded<'a, S: Alter, H: Shelf>(
         (shelf_of bench.old) (shelf_of bench.new) }
 {
     let Request::Call(key, ref command) = *request else {
-        return Guarded::Through(ask(alloc, bench, request));
+        return Guarded::Through(ask(alloc, bench, request, watch));
     };
     match in_the_way(alloc, bench, key, command) {
-        Ok(list) if list.is_empty() => Guarded::Through(ask(alloc, bench, request)),
+        Ok(list) if list.is_empty() => Guarded::Through(ask(alloc, bench, request, watch)),
         Ok(list) => Guarded::Withheld(key, list),
         Err(fault) => Guarded::Unlooked(key, fault),
     }

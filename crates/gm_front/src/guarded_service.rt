@@ -11,7 +11,7 @@ ghost use Rattle.gm_bench.specs.Benches.{progress_of, registry_of, shelf_of};
 ghost use Rattle.gm_bench.specs.Calls.{Keep};
 ghost use Rattle.gm_bench.specs.Phases.{TakesCommands};
 ghost use Rattle.gm_bench.specs.Recovering.{IsAt};
-ghost use Rattle.gm_front.specs.Findings.{TellsStoreAt, demand_in, fault_of, progress_behind};
+ghost use Rattle.gm_front.specs.Findings.{LeavesBench, TellsStoreAt, demand_in, fault_of, progress_behind};
 ghost use Rattle.gm_front.specs.GuardedServices.{FindsUnlessWithheld, HadNothing, ServesGuarded, ServesOrWithholds};
 ghost use Rattle.gm_front.specs.Closing.{KeepsClosed};
 ghost use Rattle.gm_front.specs.Services.{TurnsAway, code_told};
@@ -37,7 +37,7 @@ fn find_guarded<S: Alter, H: Shelf>(
     requires { TakesCommands (progress_of bench.old) }
     ensures finds { H.honest (shelf_of bench.old) → DiskKept S.Store (registry_of bench.new)
         → (away : Image) (u : World)
-        → IsAt S.Store H.view H.size (registry_of bench.old) (shelf_of bench.old) away [] [] u u
+        → IsAt S.Store H.Shelf (registry_of bench.old) (shelf_of bench.old) away [] [] u u
         → FindsUnlessWithheld S.Store H.Shelf bench.old bench.new away u (demand_in demand.now)
         result }
     ensures guarded { H.honest (shelf_of bench.old) → DiskKept S.Store (registry_of bench.new)
@@ -70,17 +70,11 @@ fn respond_guarded<W: Write, S: Alter, H: Shelf>(
     ensures serves { H.honest (shelf_of bench.old) → DiskKept S.Store (registry_of bench.new)
         → (input : Option (List ℕ)) → IfSome input (λ bytes. Asks bytes (asked_of request))
         → (away : Image) (u : World)
-        → IsAt S.Store H.view H.size (registry_of bench.old) (shelf_of bench.old) away [] [] u u
+        → IsAt S.Store H.Shelf (registry_of bench.old) (shelf_of bench.old) away [] [] u u
         → ServesOrWithholds S.Store H.Shelf bench.old bench.new away u input
         (W.contents writer.old) (W.contents writer.new) (code_told result.response)
         result.fault }
-    ensures progress { progress_of bench.new
-        ≡ progress_behind (progress_of bench.old) result.fault }
-    ensures phase { TakesCommands (progress_of bench.new) }
-    ensures closes { KeepsClosed bench.old bench.new result.fault }
-    ensures store { TellsStoreAt S.Store H.Shelf bench.old bench.new result.fault }
-    ensures keep { Keep S.Store H.Shelf (registry_of bench.old) (registry_of bench.new)
-        (shelf_of bench.old) (shelf_of bench.new) }
+    ensures leaves { LeavesBench S.Store H.Shelf bench.old bench.new result.fault }
 {
     let Ok(demand) = demand_of(alloc, request) else {
         return unserved(FrontFault::Memory);
@@ -109,17 +103,11 @@ pub fn serve_request_guarded<R: Read, W: Write, S: Alter, H: Shelf>(
         (code_told result.response)) }
     ensures serves { H.honest (shelf_of bench.old) → DiskKept S.Store (registry_of bench.new)
         → (away : Image) (u : World)
-        → IsAt S.Store H.view H.size (registry_of bench.old) (shelf_of bench.old) away [] [] u u
+        → IsAt S.Store H.Shelf (registry_of bench.old) (shelf_of bench.old) away [] [] u u
         → ServesGuarded S.Store H.Shelf bench.old bench.new any_origin away u
         (R.remaining reader.old) (W.contents writer.old) (W.contents writer.new)
         (code_told result.response) result.fault }
-    ensures progress { progress_of bench.new
-        ≡ progress_behind (progress_of bench.old) result.fault }
-    ensures phase { TakesCommands (progress_of bench.new) }
-    ensures closes { KeepsClosed bench.old bench.new result.fault }
-    ensures store { TellsStoreAt S.Store H.Shelf bench.old bench.new result.fault }
-    ensures keep { Keep S.Store H.Shelf (registry_of bench.old) (registry_of bench.new)
-        (shelf_of bench.old) (shelf_of bench.new) }
+    ensures leaves { LeavesBench S.Store H.Shelf bench.old bench.new result.fault }
 {
     let received = match receive_request(alloc, reader) {
         Ok(received) => received,

@@ -22,9 +22,9 @@ use sqlite::Alter;
 pub fn whole_batch_law<S: Alter, H: Shelf>()
     ensures { (all : Sizes) (r : Held S) (h : H) (away : Image) (acc ack : List Entry)
         (input before now : Option (List ℕ)) (s : Held S) (k : H) (end : Result BatchEnd FrontFault)
-        → (rest : AtRest S.Store H.view H.size all r h away acc ack)
-        → Batches S.Store H.view H.size input before now s k away rest.world end
-        → BatchLeaves S.Store H.view H.size all input s k away acc ack end }
+        → (rest : AtRest S.Store H.Shelf all r h away acc ack)
+        → Batches S.Store H.Shelf input before now s k away rest.world end
+        → BatchLeaves S.Store H.Shelf all input s k away acc ack end }
 {}
 
 /// A request is a part of a schedule. A bench that is at rest after accepted commands, as the law
@@ -35,9 +35,9 @@ pub fn served_request_law<S: Alter, H: Shelf>()
     ensures { (all : Sizes) (r s : Held S) (h k : H) (away : Image) (acc ack : List Entry)
         (input before now : Option (List ℕ)) (end : Result ℕ FrontFault)
         (fault : Option BenchFault)
-        → (rest : AtRest S.Store H.view H.size all r h away acc ack)
-        → Serves S.Store H.view H.size input before now r s h k away rest.world end fault
-        → ServedLeaves S.Store H.view H.size all input r s h k away acc ack rest end }
+        → (rest : AtRest S.Store H.Shelf all r h away acc ack)
+        → Serves S.Store H.Shelf input before now r s h k away rest.world end fault
+        → ServedLeaves S.Store H.Shelf all input r s h k away acc ack rest end }
 {}
 
 /// So is a request that is served unless a page sent it: after a page's the bench is at rest as it
@@ -46,8 +46,7 @@ pub fn unless_page_law<S: Alter, H: Shelf>()
     ensures { (all : Sizes) (r s : Held S) (h k : H) (away : Image) (acc ack : List Entry)
         (input before now : Option (List ℕ)) (end : Result ℕ FrontFault)
         (fault : Option BenchFault)
-        → (rest : AtRest S.Store H.view H.size all r h away acc ack)
-        → ServesUnlessPage S.Store H.view H.size input before now r s h k away rest.world end
-        fault
-        → ServedUnlessPage S.Store H.view H.size all input r s h k away acc ack rest end }
+        → (rest : AtRest S.Store H.Shelf all r h away acc ack)
+        → ServesUnlessPage S.Store H.Shelf input before now r s h k away rest.world end fault
+        → ServedUnlessPage S.Store H.Shelf all input r s h k away acc ack rest end }
 {}

@@ -1,16 +1,15 @@
 //! What a line of a batch comes to, of which the next may settle what it did.
 
-ghost use Rattle.std.specs.Prelude.{◌≡◌, ◌≢◌, false, IfOk, IfErr, OnOk};
+ghost use Rattle.std.specs.Prelude.{IfOk, IfErr};
 ghost use Rattle.gm_metadata.specs.Images.{Image};
 ghost use Rattle.gm_state.specs.World.{World};
 ghost use Rattle.gm_registry.specs.Registry.{DiskKept};
 ghost use Rattle.gm_bench.specs.Benches.{progress_of, registry_of, shelf_of};
 ghost use Rattle.gm_bench.specs.Calls.{ClosesOnFault, Keep};
-ghost use Rattle.gm_bench.specs.declared.phase.Progress.TheVariants.{Failed, Ready};
 ghost use Rattle.gm_bench.specs.Phases.{TakesNext};
 ghost use Rattle.gm_bench.specs.Standing.{Stands};
 ghost use Rattle.gm_front.specs.Closing.{KeepsClosed, outcome_fault};
-ghost use Rattle.gm_front.specs.Outcomes.{FailsNext, IsAnsweredNext, IsFarAfter, NextComesTo};
+ghost use Rattle.gm_front.specs.Outcomes.{FailsNext, IsAnsweredNext, IsFarAfter, IsFarOn, NextComesTo};
 ghost use Rattle.gm_lines.specs.Asked.{asked_of};
 
 use crate::outcome::Outcome;
@@ -33,20 +32,17 @@ fn hand_in<S: Alter, H: Shelf>(
     requires { TakesNext (progress_of bench.old) }
     ensures answers { H.honest (shelf_of bench.old) → DiskKept S.Store (registry_of bench.new)
         → IfOk result (λ a. (away : Image) (v u : World)
-        → Stands S.Store H.view H.size (progress_of bench.old)
+        → Stands S.Store H.Shelf (progress_of bench.old)
         (registry_of bench.old) (shelf_of bench.old) away v u
-        → IsAnsweredNext S.Store H.view H.size (progress_of bench.new)
+        → IsAnsweredNext S.Store H.Shelf (progress_of bench.new)
         (registry_of bench.new) (shelf_of bench.new) away v u key.now command.now a) }
     ensures fails { H.honest (shelf_of bench.old) → DiskKept S.Store (registry_of bench.new)
         → IfErr result (λ fault. (away : Image) (v u : World)
-        → Stands S.Store H.view H.size (progress_of bench.old)
+        → Stands S.Store H.Shelf (progress_of bench.old)
         (registry_of bench.old) (shelf_of bench.old) away v u
-        → FailsNext S.Store H.view H.size (registry_of bench.old) (registry_of bench.new)
+        → FailsNext S.Store H.Shelf (registry_of bench.old) (registry_of bench.new)
         (shelf_of bench.old) (shelf_of bench.new) away v u key.now command.now fault) }
-    ensures phase { OnOk result (TakesNext (progress_of bench.new)) }
-    ensures goes_on { OnOk result
-        ((progress_of bench.old ≢ Failed) × (progress_of bench.new ≢ Failed)) }
-    ensures rests { follows ≡ false → OnOk result (progress_of bench.new ≡ Ready) }
+    ensures far { IsFarOn (progress_of bench.old) (progress_of bench.new) follows result }
     ensures keep { Keep S.Store H.Shelf (registry_of bench.old) (registry_of bench.new)
         (shelf_of bench.old) (shelf_of bench.new) }
     ensures closes { ClosesOnFault bench.old bench.new result }
@@ -71,9 +67,9 @@ pub(crate) fn ask_next<'a, S: Alter, H: Shelf>(
     requires { TakesNext (progress_of bench.old) }
     ensures comes { H.honest (shelf_of bench.old) → DiskKept S.Store (registry_of bench.new)
         → (away : Image) (v u : World)
-        → Stands S.Store H.view H.size (progress_of bench.old)
+        → Stands S.Store H.Shelf (progress_of bench.old)
         (registry_of bench.old) (shelf_of bench.old) away v u
-        → NextComesTo S.Store H.view H.size (progress_of bench.new)
+        → NextComesTo S.Store H.Shelf (progress_of bench.new)
         (registry_of bench.old) (registry_of bench.new)
         (shelf_of bench.old) (shelf_of bench.new) away v u (asked_of request.now) result }
     ensures far { IsFarAfter (progress_of bench.old) (progress_of bench.new) follows result }

@@ -17,7 +17,7 @@ ghost use Rattle.gm_front.specs.Losses.{loss_line};
 ghost use Rattle.gm_front.specs.Outcomes.{ComesTo, is_refused, progress_after, text_of};
 ghost use Rattle.gm_lines.specs.Asked.{asked_of};
 
-use gm_bench::{Answer, Bench, BenchFault, LossRefusal};
+use gm_bench::{Answer, Bench, BenchFault, LossRefusal, Watch};
 use gm_lines::{Request, shown};
 use gm_shelf::Shelf;
 use gm_state::Reply;
@@ -119,17 +119,19 @@ pub fn loss_text(
     }
 }
 
-/// Asks the bench what a line asks, in phase Ready or Failed.
-pub fn ask<'a, S: Alter, H: Shelf>(
+/// Asks the bench what a line asks, in phase Ready or Failed. The watch is told how far data are
+/// compared, which `adopt` does.
+pub fn ask<'a, S: Alter, H: Shelf, W: Watch>(
     alloc: Global,
     bench: &mut Bench<S, H>,
     request: &Request<'a>,
+    watch: &mut W,
 ) -> Outcome<'a>
     requires { TakesCommands (progress_of bench.old) }
     ensures comes { H.honest (shelf_of bench.old) → DiskKept S.Store (registry_of bench.new)
         → (away : Image) (u : World)
-        → IsAt S.Store H.view H.size (registry_of bench.old) (shelf_of bench.old) away [] [] u u
-        → ComesTo S.Store H.view H.size (registry_of bench.old) (registry_of bench.new)
+        → IsAt S.Store H.Shelf (registry_of bench.old) (shelf_of bench.old) away [] [] u u
+        → ComesTo S.Store H.Shelf (registry_of bench.old) (registry_of bench.new)
         (shelf_of bench.old) (shelf_of bench.new) away u (asked_of request.now) result }
     ensures progress { progress_of bench.new ≡ progress_after (progress_of bench.old) result }
     ensures closes { KeepsClosed bench.old bench.new (outcome_fault result) }
@@ -139,7 +141,7 @@ pub fn ask<'a, S: Alter, H: Shelf>(
     match *request {
         Request::Nothing => Outcome::Nothing,
         Request::Wrong(key) => Outcome::Wrong(key),
-        Request::Call(key, ref command) => match bench.run(alloc, key, command) {
+        Request::Call(key, ref command) => match bench.run_watched(alloc, key, command, watch) {
             Ok(answer) => Outcome::Answered(key, answer),
             Err(fault) => Outcome::Failed(key, fault),
         },

@@ -12,8 +12,7 @@ ghost use Rattle.gm_bench.specs.Calls.{Keep};
 ghost use Rattle.gm_bench.specs.Phases.{TakesCommands};
 ghost use Rattle.gm_bench.specs.Recovering.{IsAt};
 ghost use Rattle.gm_front.specs.Batch.{AppendsFront};
-ghost use Rattle.gm_front.specs.Findings.{TellsStoreAt, progress_behind, told_of};
-ghost use Rattle.gm_front.specs.Closing.{KeepsClosed};
+ghost use Rattle.gm_front.specs.Findings.{LeavesBench, told_of};
 ghost use Rattle.gm_front.specs.Services.{Serves, ServesOne, ServesUnlessPage, TurnsAway, bytes_of, code_told};
 
 use crate::answer_lines::{FrontFault, write_whole};
@@ -94,18 +93,12 @@ fn respond<W: Write, S: Alter, H: Shelf>(
     ensures serves { H.honest (shelf_of bench.old) → DiskKept S.Store (registry_of bench.new)
         → (input : Option (List ℕ)) → IfSome input (λ bytes. Asks bytes (asked_of request))
         → (away : Image) (u : World)
-        → IsAt S.Store H.view H.size (registry_of bench.old) (shelf_of bench.old) away [] [] u u
-        → Serves S.Store H.view H.size input (W.contents writer.old) (W.contents writer.new)
+        → IsAt S.Store H.Shelf (registry_of bench.old) (shelf_of bench.old) away [] [] u u
+        → Serves S.Store H.Shelf input (W.contents writer.old) (W.contents writer.new)
         (registry_of bench.old) (registry_of bench.new)
         (shelf_of bench.old) (shelf_of bench.new) away u (code_told result.response)
         result.fault }
-    ensures progress { progress_of bench.new
-        ≡ progress_behind (progress_of bench.old) result.fault }
-    ensures phase { TakesCommands (progress_of bench.new) }
-    ensures closes { KeepsClosed bench.old bench.new result.fault }
-    ensures store { TellsStoreAt S.Store H.Shelf bench.old bench.new result.fault }
-    ensures keep { Keep S.Store H.Shelf (registry_of bench.old) (registry_of bench.new)
-        (shelf_of bench.old) (shelf_of bench.new) }
+    ensures leaves { LeavesBench S.Store H.Shelf bench.old bench.new result.fault }
 {
     let Ok(demand) = demand_of(alloc, request) else {
         return unserved(FrontFault::Memory);
@@ -129,19 +122,13 @@ pub fn serve_request<R: Read, W: Write, S: Alter, H: Shelf>(
     requires { TakesCommands (progress_of bench.old) }
     ensures serves { H.honest (shelf_of bench.old) → DiskKept S.Store (registry_of bench.new)
         → (away : Image) (u : World)
-        → IsAt S.Store H.view H.size (registry_of bench.old) (shelf_of bench.old) away [] [] u u
-        → Serves S.Store H.view H.size (R.remaining reader.old)
+        → IsAt S.Store H.Shelf (registry_of bench.old) (shelf_of bench.old) away [] [] u u
+        → Serves S.Store H.Shelf (R.remaining reader.old)
         (W.contents writer.old) (W.contents writer.new)
         (registry_of bench.old) (registry_of bench.new)
         (shelf_of bench.old) (shelf_of bench.new) away u (code_told result.response)
         result.fault }
-    ensures progress { progress_of bench.new
-        ≡ progress_behind (progress_of bench.old) result.fault }
-    ensures phase { TakesCommands (progress_of bench.new) }
-    ensures closes { KeepsClosed bench.old bench.new result.fault }
-    ensures store { TellsStoreAt S.Store H.Shelf bench.old bench.new result.fault }
-    ensures keep { Keep S.Store H.Shelf (registry_of bench.old) (registry_of bench.new)
-        (shelf_of bench.old) (shelf_of bench.new) }
+    ensures leaves { LeavesBench S.Store H.Shelf bench.old bench.new result.fault }
 {
     match read_request(alloc, reader) {
         Ok(request) => respond(alloc, writer, bench, request),
@@ -177,19 +164,13 @@ pub fn serve_request_unless_page<R: Read, W: Write, S: Alter, H: Shelf>(
         (code_told result.response)) }
     ensures serves { H.honest (shelf_of bench.old) → DiskKept S.Store (registry_of bench.new)
         → (away : Image) (u : World)
-        → IsAt S.Store H.view H.size (registry_of bench.old) (shelf_of bench.old) away [] [] u u
-        → ServesUnlessPage S.Store H.view H.size (R.remaining reader.old)
+        → IsAt S.Store H.Shelf (registry_of bench.old) (shelf_of bench.old) away [] [] u u
+        → ServesUnlessPage S.Store H.Shelf (R.remaining reader.old)
         (W.contents writer.old) (W.contents writer.new)
         (registry_of bench.old) (registry_of bench.new)
         (shelf_of bench.old) (shelf_of bench.new) away u (code_told result.response)
         result.fault }
-    ensures progress { progress_of bench.new
-        ≡ progress_behind (progress_of bench.old) result.fault }
-    ensures phase { TakesCommands (progress_of bench.new) }
-    ensures closes { KeepsClosed bench.old bench.new result.fault }
-    ensures store { TellsStoreAt S.Store H.Shelf bench.old bench.new result.fault }
-    ensures keep { Keep S.Store H.Shelf (registry_of bench.old) (registry_of bench.new)
-        (shelf_of bench.old) (shelf_of bench.new) }
+    ensures leaves { LeavesBench S.Store H.Shelf bench.old bench.new result.fault }
 {
     let received = match receive_request(alloc, reader) {
         Ok(received) => received,

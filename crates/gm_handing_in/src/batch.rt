@@ -7,7 +7,7 @@ ghost use Rattle.gm_process.specs.Statuses.{MayRefuse};
 ghost use Rattle.gm_handing_in.specs.Ends.{fault_of_front, status_of_end};
 
 use crate::explainer::Explainer;
-use gm_bench::Bench;
+use gm_bench::{Bench, Unwatched};
 use gm_faults::Fault;
 use gm_front::{
     BatchEnd, FrontFault, Guarded, Listener, Outcome, ask_guarded, heard_batch, withheld_text,
@@ -147,7 +147,7 @@ fn hand_in_guarded<S: Alter, H: Shelf, O: Write, E: Write>(
 {
     let line = text.as_bytes();
     let request = request_of(alloc, &pieces(alloc, text)?)?;
-    match ask_guarded(alloc, bench, &request) {
+    match ask_guarded(alloc, bench, &request, &mut Unwatched) {
         Guarded::Through(outcome) => tell(alloc, line, &outcome, output, explainer),
         Guarded::Unlooked(key, fault) => {
             tell(alloc, line, &Outcome::Failed(key, fault), output, explainer)

@@ -1,10 +1,10 @@
-//! What a command would take away for good, and whether it is carried out all the same.
+//! What a command would take away for good.
 
 ghost use Rattle.std.specs.Prelude.{◌≡◌, OnOk};
 ghost use Rattle.gm_bench.specs.Benches.{progress_of};
 ghost use Rattle.gm_bench.specs.Phases.{TakesCommands};
 
-use gm_answers::not_done_in;
+use crate::insistence::is_wanted;
 use gm_bench::Bench;
 use gm_command_line::Form;
 use gm_commands::Command;
@@ -16,7 +16,7 @@ use gm_refusals::providers_of;
 use gm_shelf::{FileShelf, Shelf, ShelfFault};
 use gm_state::State;
 use sqlite::Alter;
-use std::alloc::Global;
+use std::alloc::{AllocError, Global};
 use std::io::{self, BufRead, Write};
 
 // The images that are to be looked at for a command: those that it names, or all of the folder if
@@ -50,74 +50,47 @@ fn losses_of<I, O, E: Write>(
     }
 }
 
-// Says what is lost.
-fn say<E: Write>(complaints: &mut E, key: &str, loss: &Loss) -> io::Result<()> {
-    write!(complaints, "{key}: ")?;
+// What is lost, in a sentence.
+fn sentence(alloc: Global, loss: &Loss) -> Result<String, AllocError> {
     match loss {
-        Loss::LastSector { provider } => writeln!(
-            complaints,
+        Loss::LastSector { provider } => format!(in alloc;
             "{provider} holds data in its last sector: lengthen it by truncate -s +512"
         ),
         Loss::Database { provider } => {
-            writeln!(
-                complaints,
-                "{provider} is a database of SQLite, a registry perhaps"
-            )
+            format!(in alloc; "{provider} is a database of SQLite, a registry perhaps")
         }
-        Loss::Data { provider, place } => writeln!(
-            complaints,
+        Loss::Data { provider, place } => format!(in alloc;
             "{provider} holds data, first in sector {place}: a sync writes over all of it"
         ),
-        Loss::Intact { provider } => writeln!(
-            complaints,
+        Loss::Intact { provider } => format!(in alloc;
             "{provider} is there, and as it is registered: remove takes it out"
         ),
         Loss::Left {
             provider,
             newer: true,
-        } => writeln!(
-            complaints,
+        } => format!(in alloc;
             "{provider} is of the same mirror and newer: adopt it too, or its data are lost"
         ),
         Loss::Left {
             provider,
             newer: false,
-        } => writeln!(complaints, "{provider} is of the same mirror: adopt it too"),
-        Loss::OnlyCopy { provider } => writeln!(
-            complaints,
+        } => format!(in alloc; "{provider} is of the same mirror: adopt it too"),
+        Loss::OnlyCopy { provider } => format!(in alloc;
             "{provider} alone would be ACTIVE, while others aren't filled: sync first"
         ),
-        Loss::Mirror { components } => writeln!(
-            complaints,
+        Loss::Mirror { components } => format!(in alloc;
             "the mirror has {components} components, and the metadata of all are cleared"
         ),
     }
 }
 
-// Asks whoever runs the program whether to go on. Anything but `yes` is no, and so is an input that
-// ends.
-fn goes_on<I: BufRead, O, E: Write>(
-    alloc: Global,
-    streams: &mut Streams<'_, I, O, E>,
-) -> io::Result<bool> {
-    write!(streams.complaints, "go on? (yes or no) ")?;
-    streams.complaints.flush()?;
-    let mut answer = String::new(alloc);
-    streams.input.read_line(&mut answer)?;
-    Ok(answer.trim() == "yes")
-}
-
-// That the command isn't done.
-fn tell_not_done<I, O: Write, E>(
-    alloc: Global,
-    key: &str,
-    form: Form,
-    streams: &mut Streams<'_, I, O, E>,
-) -> Result<(), Fault> {
-    let text = not_done_in(alloc, form, key)?;
-    streams.output.write_all(text.as_bytes())?;
-    streams.output.flush()?;
-    Ok(())
+// All that is lost, in a sentence each.
+fn sentences_of(alloc: Global, losses: &[Loss]) -> Result<Vec<String>, AllocError> {
+    let mut sentences = Vec::new(alloc);
+    for loss in losses {
+        sentences.push(sentence(alloc, loss)?)?;
+    }
+    Ok(sentences)
 }
 
 /// Whether nothing is lost by a command, or whoever runs the program wants it all the same; else it
@@ -140,22 +113,6 @@ pub(crate) fn lets_go<S: Alter, H: Shelf, I: BufRead, O: Write, E: Write>(
     if found.is_empty() {
         return Ok(true);
     }
-    let asks = streams.explaining.asks;
-    if !asks {
-        tell_not_done(alloc, key, form, streams)?;
-    }
-    for loss in &found {
-        let _ = say(streams.complaints, key, loss);
-    }
-    if asks {
-        if goes_on(alloc, streams)? {
-            return Ok(true);
-        }
-        tell_not_done(alloc, key, form, streams)?;
-    }
-    let _ = writeln!(
-        streams.complaints,
-        "{key}: --force carries it out all the same"
-    );
-    Ok(false)
+    let sentences = sentences_of(alloc, &found)?;
+    is_wanted(alloc, key, form, &sentences, streams)
 }

@@ -17,7 +17,7 @@ use gm_faults::Fault;
 use gm_front::{Guarded, Outcome, ask, ask_guarded, in_the_way};
 use gm_lines::{Request, request_of};
 use gm_looks::Unlike;
-use gm_process::{Status, Streams};
+use gm_process::{Meter, Status, Streams};
 use gm_shelf::Shelf;
 use sqlite::Alter;
 use std::alloc::{AllocError, Global};
@@ -125,21 +125,27 @@ fn tell_withheld<I, O: Write, E: Write>(
     Ok(Status::Refused)
 }
 
-// Hands in a request, unless images stand in its way.
-fn asked<'a, S: Alter, H: Shelf>(
-    alloc: Global,
+// Hands in a request, unless images stand in its way. A terminal is told how far data are compared.
+fn asked<'a, S: Alter, H: Shelf, I, O, E: Write>(
+    rt: &HostRuntime,
     request: &Request<'a>,
     checks: Checks,
     bench: &mut Bench<S, H>,
+    streams: &mut Streams<'_, I, O, E>,
 ) -> Guarded<'a>
     requires { TakesCommands (progress_of bench.old) }
     ensures { TakesCommands (progress_of bench.new) }
 {
-    if checks.images {
-        ask_guarded(alloc, bench, request)
+    let alloc = rt.alloc();
+    let style = streams.explaining.style(!streams.explaining.at_terminal);
+    let mut meter = Meter::new(rt, streams.complaints, style);
+    let guarded = if checks.images {
+        ask_guarded(alloc, bench, request, &mut meter)
     } else {
-        Guarded::Through(ask(alloc, bench, request))
-    }
+        Guarded::Through(ask(alloc, bench, request, &mut meter))
+    };
+    meter.end();
+    guarded
 }
 
 /// Hands in a command, if the checks let it pass, and prints what it came to.
@@ -164,7 +170,7 @@ pub fn hand_in_one<S: Alter, H: Shelf, I: BufRead, O: Write, E: Write>(
         }
         Err(fault) => return Err(fault),
     }
-    match asked(alloc, &request, one.checks, bench) {
+    match asked(rt, &request, one.checks, bench, streams) {
         Guarded::Through(outcome) => tell(rt, one, &outcome, bench, streams),
         Guarded::Unlooked(key, fault) => {
             tell(rt, one, &Outcome::Failed(key, fault), bench, streams)

@@ -32,7 +32,7 @@ module _ {S H : Type 0} (g : StoreGhosts S) (h : ShelfGhosts H) where
       world = u;
       intents = [];
       bytes = [];
-      at = done_at_rest g h.view h.size (registry_of a) (shelf_of a) away u at;
+      at = done_at_rest g h (registry_of a) (shelf_of a) away u at;
       failed = λ room. store kept (is ∙ ap Err e) at.tables at.has;
     };
   }

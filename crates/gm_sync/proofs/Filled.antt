@@ -87,22 +87,22 @@ module _ {S H : Type 0} (g : StoreGhosts S) (h : ShelfGhosts H) where
 
   -- at rest the tables are those of the world's records
   pub tables_at_rest : (b : Bench S H) (away : Image) (w : World)
-      (at : IsAt g h.view h.size (registry_of b) (shelf_of b) away [] [] w w)
+      (at : IsAt g h (registry_of b) (shelf_of b) away [] [] w w)
       → IsLawful (h.view (shelf_of b)) → AreRecordsOf at.tables w.state
   tables_at_rest b away w at lawful =
-      are_records g h.view h.size (registry_of b) (shelf_of b) away [] [] w w
-      (done_at_rest g h.view h.size (registry_of b) (shelf_of b) away w at) lawful
+      are_records g h (registry_of b) (shelf_of b) away [] [] w w
+      (done_at_rest g h (registry_of b) (shelf_of b) away w at) lawful
 
   -- no look
   pub look_none : (a : Bench S H)
-      → LookDoes g h.view h.size (registry_of a) (registry_of a) (shelf_of a) (shelf_of a)
+      → LookDoes g h (registry_of a) (registry_of a) (shelf_of a) (shelf_of a)
   look_none a = record { tables = λ t has. has; images = λ x may. may; sizes = refl }
 
   -- looks in turn
   pub look_then : (a b c : Bench S H)
-      → LookDoes g h.view h.size (registry_of a) (registry_of b) (shelf_of a) (shelf_of b)
-      → LookDoes g h.view h.size (registry_of b) (registry_of c) (shelf_of b) (shelf_of c)
-      → LookDoes g h.view h.size (registry_of a) (registry_of c) (shelf_of a) (shelf_of c)
+      → LookDoes g h (registry_of a) (registry_of b) (shelf_of a) (shelf_of b)
+      → LookDoes g h (registry_of b) (registry_of c) (shelf_of b) (shelf_of c)
+      → LookDoes g h (registry_of a) (registry_of c) (shelf_of a) (shelf_of c)
   look_then a b c first then = record {
     tables = λ t has. then.tables t (first.tables t has);
     images = λ x may. first.images x (then.images x may);
@@ -149,7 +149,7 @@ module _ {S H : Type 0} (g : StoreGhosts S) (h : ShelfGhosts H) (Fit : Command �
   pub fills_look : (a b : Bench S H) → progress_of b ≡ progress_of a
       → Keep g h (registry_of a) (registry_of b) (shelf_of a) (shelf_of b)
       → (h.honest (shelf_of a) → DiskKept g (registry_of b)
-      → LookDoes g h.view h.size (registry_of a) (registry_of b) (shelf_of a) (shelf_of b))
+      → LookDoes g h (registry_of a) (registry_of b) (shelf_of a) (shelf_of b))
       → Fills g h Fit a b
   fills_look a b stays keep does = record {
     stays = stays;
@@ -160,7 +160,7 @@ module _ {S H : Type 0} (g : StoreGhosts S) (h : ShelfGhosts H) (Fit : Command �
       world = u;
       run = refl;
       fill = λ call has. absurd has;
-      at = looked_at g h.view h.size (registry_of a) (registry_of b) (shelf_of a) (shelf_of b)
+      at = looked_at g h (registry_of a) (registry_of b) (shelf_of a) (shelf_of b)
           away [] [] u u (does honest kept) at;
     };
   }
@@ -173,7 +173,7 @@ module _ {S H : Type 0} (g : StoreGhosts S) (h : ShelfGhosts H) (Fit : Command �
 
   -- after a look the bench has come from rest as it had before it
   abbrev pub filled_look : (b c : Bench S H) (away : Image) (u : World)
-      → LookDoes g h.view h.size (registry_of b) (registry_of c) (shelf_of b) (shelf_of c)
+      → LookDoes g h (registry_of b) (registry_of c) (shelf_of b) (shelf_of c)
       → IsFilledFrom g h Fit b away u → IsFilledFrom g h Fit c away u
   filled_look b c away u does filled = record {
     calls = filled.calls;
@@ -181,7 +181,7 @@ module _ {S H : Type 0} (g : StoreGhosts S) (h : ShelfGhosts H) (Fit : Command �
     world = filled.world;
     run = filled.run;
     fill = filled.fill;
-    at = looked_at g h.view h.size (registry_of b) (registry_of c) (shelf_of b) (shelf_of c) away []
+    at = looked_at g h (registry_of b) (registry_of c) (shelf_of b) (shelf_of c) away []
         [] filled.world filled.world does filled.at;
   }
 
@@ -190,8 +190,7 @@ module _ {S H : Type 0} (g : StoreGhosts S) (h : ShelfGhosts H) (Fit : Command �
       → Fit command → progress_of b ≡ progress_of a
       → Keep g h (registry_of a) (registry_of b) (shelf_of a) (shelf_of b)
       → (h.honest (shelf_of a) → DiskKept g (registry_of b)
-      → RunAnswers g h.view h.size (registry_of a) (registry_of b) (shelf_of a) (shelf_of b) key
-      command answer)
+      → RunAnswers g h (registry_of a) (registry_of b) (shelf_of a) (shelf_of b) key command answer)
       → Fills g h Fit a b
   fills_run a b key command answer is stays keep answers = record {
     stays = stays;
@@ -232,7 +231,7 @@ module _ {S H : Type 0} (g : StoreGhosts S) (h : ShelfGhosts H) (a b c : Bench S
   pub whole_behind : Keep g h (registry_of a) (registry_of b) (shelf_of a) (shelf_of b)
       → Keep g h (registry_of b) (registry_of c) (shelf_of b) (shelf_of c)
       → (h.honest (shelf_of a) → DiskKept g (registry_of b)
-      → LookDoes g h.view h.size (registry_of a) (registry_of b) (shelf_of a) (shelf_of b))
+      → LookDoes g h (registry_of a) (registry_of b) (shelf_of a) (shelf_of b))
       → IsWhole g h b c due state → IsWhole g h a c due state
   whole_behind first then does whole = record {
     last = record {
@@ -247,9 +246,9 @@ module _ {S H : Type 0} (g : StoreGhosts S) (h : ShelfGhosts H) (a b c : Bench S
         whole.world (first.shelf.honest honest) kept away u (behind honest kept away u at);
   } where
     behind : h.honest (shelf_of a) → DiskKept g (registry_of c) → (away : Image) (u : World)
-        → IsAt g h.view h.size (registry_of a) (shelf_of a) away [] [] u u
-        → IsAt g h.view h.size (registry_of b) (shelf_of b) away [] [] u u
+        → IsAt g h (registry_of a) (shelf_of a) away [] [] u u
+        → IsAt g h (registry_of b) (shelf_of b) away [] [] u u
     behind honest kept away u at =
         let mid : DiskKept g (registry_of b) = omega (arith, then.clean, kept) in
-        looked_at g h.view h.size (registry_of a) (registry_of b) (shelf_of a) (shelf_of b) away
+        looked_at g h (registry_of a) (registry_of b) (shelf_of a) (shelf_of b) away
         [] [] u u (does honest mid) at

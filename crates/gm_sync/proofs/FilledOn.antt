@@ -3,9 +3,8 @@ use Rattle.std.proofs.Common.{◌≡◌, ◌∙◌, inl, inr, ℕ, refl, sym, su
 use Rattle.std.specs.Prelude.{IfErr}
 use Rattle.sqlite_trees.specs.declared.store.Store.{Ghosts as StoreGhosts}
 use Rattle.sqlite.specs.Held.{Held}
-use Rattle.gm_metadata.specs.Images.{Image, Sizes}
+use Rattle.gm_metadata.specs.Images.{Image}
 use Rattle.gm_shelf.specs.declared.shelf.Shelf.{Ghosts as ShelfGhosts}
-use Rattle.gm_shelf.specs.Disk.{View}
 use Rattle.gm_commands.specs.declared.command.Command.{Command}
 use Rattle.gm_state.specs.World.{World}
 use Rattle.gm_rules.specs.AbstractCalls as run
@@ -30,16 +29,16 @@ use Rattle.gm_sync.specs.Filling.{FailsAsCalls, FailsOn, Fills, FillsOn, IsClose
 use Rattle.gm_sync.proofs.Filled.{either_fills, has_either, keep_none, keep_then, one_fills, run_then}
 
 -- the world that a command reaches, and where the bench stands then
-module _ {S H : Type 0} (g : StoreGhosts S) (view : H → View) (size : H → Sizes) where
+module _ {S H : Type 0} (g : StoreGhosts S) (j : ShelfGhosts H) where
   pub record Reaches (q : Progress) (s : Held S) (k : H) (away : Image) (u : World) (key : List ℕ)
       (c : Command) (a : Answer) : Type 0 where
     pub world : World
     pub before : World
     pub calls : run.Calls u (record { key = key; command = c }) world (answer_of a)
-    pub stands : Stands g view size q s k away before world
+    pub stands : Stands g j q s k away before world
 
   pub reaches : (q : Progress) (r s : Held S) (h k : H) (away : Image) (v u : World) (key : List ℕ)
-      (c : Command) (a : Answer) → IsHandedIn g view size q r s h k away v u key c a
+      (c : Command) (a : Answer) → IsHandedIn g j q r s h k away v u key c a
       → Reaches q s k away u key c a
   reaches q r s h k away v u key c (Done n reply) it =
       record { world = it.0; before = u; calls = it.1; stands = it.3 }
@@ -94,8 +93,8 @@ module _ {S H : Type 0} (g : StoreGhosts S) (h : ShelfGhosts H) (Fit : Command �
       → Fit command → (progress_of a ≡ Failed → ⊥) → (progress_of b ≡ Failed → ⊥)
       → Keep g h (registry_of a) (registry_of b) (shelf_of a) (shelf_of b)
       → (h.honest (shelf_of a) → DiskKept g (registry_of b) → (away : Image) (v u : World)
-      → Stands g h.view h.size (progress_of a) (registry_of a) (shelf_of a) away v u
-      → IsHandedIn g h.view h.size (progress_of b) (registry_of a) (registry_of b) (shelf_of a)
+      → Stands g h (progress_of a) (registry_of a) (shelf_of a) away v u
+      → IsHandedIn g h (progress_of b) (registry_of a) (registry_of b) (shelf_of a)
       (shelf_of b) away v u key command answer)
       → FillsOn g h Fit a b
   fills_on_next a b key command answer is before after keep answers = record {
@@ -103,7 +102,7 @@ module _ {S H : Type 0} (g : StoreGhosts S) (h : ShelfGhosts H) (Fit : Command �
     goes_on = λ e. absurd (after e);
     keep = keep;
     does = λ honest kept away v u stands.
-        let it = reaches g h.view h.size (progress_of b) (registry_of a) (registry_of b)
+        let it = reaches g h (progress_of b) (registry_of a) (registry_of b)
         (shelf_of a) (shelf_of b) away v u key command answer
         (answers honest kept away v u stands) in
         record {
@@ -122,15 +121,15 @@ module _ {S H : Type 0} (g : StoreGhosts S) (h : ShelfGhosts H) (Fit : Command �
       → Keep g h (registry_of b) (registry_of c) (shelf_of b) (shelf_of c)
       → (progress_of b ≡ Failed → ⊥) → progress_of c ≡ Ready
       → (h.honest (shelf_of b) → DiskKept g (registry_of c) → (away : Image) (v u : World)
-      → Stands g h.view h.size (progress_of b) (registry_of b) (shelf_of b) away v u
-      → IsAt g h.view h.size (registry_of c) (shelf_of c) away [] [] u u)
+      → Stands g h (progress_of b) (registry_of b) (shelf_of b) away v u
+      → IsAt g h (registry_of c) (shelf_of c) away [] [] u u)
       → Fills g h Fit a c
   fills_settled a b c takes first keep goes_on rests does = record {
     stays = rests ∙ sym (takes_ready (progress_of a) takes (λ is. goes_on (first.failed is)));
     keep = keep_then g h a b c first.keep keep;
     does = λ honest kept away u at.
         let mid : DiskKept g (registry_of b) = omega (arith, keep.clean, kept) in
-        let it = first.does honest mid away u u (stands_rest g h.view h.size (progress_of a)
+        let it = first.does honest mid away u u (stands_rest g h (progress_of a)
         (registry_of a) (shelf_of a) away u takes at) in
         record {
           calls = it.calls;
@@ -185,7 +184,7 @@ module _ {S H : Type 0} (g : StoreGhosts S) (h : ShelfGhosts H) where
     store = λ honest kept away v u stands e.
         let mid : DiskKept g (registry_of b) = omega (arith, keep.clean, kept) in
         let it = first.does honest mid away v u stands in
-        let was = carried_so g h.view h.size (progress_of b) (registry_of b) (shelf_of b) away
+        let was = carried_so g h (progress_of b) (registry_of b) (shelf_of b) away
         it.before it.world it.stands in
         record {
           before = b;
@@ -205,11 +204,9 @@ module _ {S H : Type 0} (g : StoreGhosts S) (h : ShelfGhosts H) where
     reopen = it.reopen;
     absent = it.absent;
     disk = λ honest kept away u at e. it.disk honest kept away u u
-        (stands_rest g h.view h.size (progress_of a) (registry_of a) (shelf_of a) away u takes at)
-        e;
+        (stands_rest g h (progress_of a) (registry_of a) (shelf_of a) away u takes at) e;
     store = λ honest kept away u at e. it.store honest kept away u u
-        (stands_rest g h.view h.size (progress_of a) (registry_of a) (shelf_of a) away u takes at)
-        e;
+        (stands_rest g h (progress_of a) (registry_of a) (shelf_of a) away u takes at) e;
   }
 
   -- what is settled after a fault: nothing, unless memory was wanted

@@ -24,7 +24,7 @@ module _ {S H : Type 0} (g : StoreGhosts S) (h : ShelfGhosts H) (due : Due) wher
       → Keep g h (registry_of a) (registry_of b) (shelf_of a) (shelf_of b)
       → Keep g h (registry_of b) (registry_of c) (shelf_of b) (shelf_of c)
       → (h.honest (shelf_of a) → DiskKept g (registry_of b)
-      → LookDoes g h.view h.size (registry_of a) (registry_of b) (shelf_of a) (shelf_of b))
+      → LookDoes g h (registry_of a) (registry_of b) (shelf_of a) (shelf_of b))
       → IsStill g h b c due → IsStill g h a c due
   still_then a b c first then does still honest kept t s has are none =
       let mid : DiskKept g (registry_of b) = omega (arith, then.clean, kept) in

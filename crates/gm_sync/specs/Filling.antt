@@ -1,5 +1,5 @@
 -- What filling leaves of a bench, and what it is told to have come to.
-use Rattle.std.specs.Prelude.{◌≡◌, ◌<◌, ◌⊎◌, ℕ, Bool, true, false, List, [], None, Result, IfOk}
+use Rattle.std.specs.Prelude.{◌≡◌, ◌<◌, ◌⊎◌, ℕ, Bool, true, false, List, [], None, Result, IfOk, OnOk}
 use Rattle.sqlite_trees.specs.declared.store.Store.{Ghosts as StoreGhosts}
 use Rattle.sqlite.specs.Held.{Held}
 use Rattle.gm_metadata.specs.Images.{Image, Sizes}
@@ -33,6 +33,7 @@ use Rattle.gm_sync.specs.declared.due.Due.{Due}
 use Rattle.gm_sync.specs.declared.passed_over.PassedOver.{PassedOver}
 use Rattle.gm_sync.specs.declared.scope.Scope.{Scope}
 use Rattle.gm_sync.specs.declared.synced.Synced.{Synced}
+use Rattle.gm_sync.specs.Ends.{IfWhole}
 use Rattle.gm_sync.specs.Scopes.{PassesNone, but, is_beside, is_due, is_passed_over, next_of}
 
 -- the command fills this component
@@ -52,7 +53,7 @@ module _ {S H : Type 0} (g : StoreGhosts S) (h : ShelfGhosts H) (Fit : Command �
     pub world : World
     pub run : Run u calls world answers
     pub fill : (call : Call) → Has calls call → Fit call.command
-    pub at : IsAt g h.view h.size (registry_of b) (shelf_of b) away [] [] world world
+    pub at : IsAt g h (registry_of b) (shelf_of b) away [] [] world world
 
   -- A call that fills: both media are kept, and of an honest shelf and a disk that keeps what is
   -- written it does nothing but run commands that fit, from rest to rest.
@@ -60,7 +61,7 @@ module _ {S H : Type 0} (g : StoreGhosts S) (h : ShelfGhosts H) (Fit : Command �
     pub stays : progress_of new ≡ progress_of old
     pub keep : Keep g h (registry_of old) (registry_of new) (shelf_of old) (shelf_of new)
     pub does : h.honest (shelf_of old) → DiskKept g (registry_of new) → (away : Image) (u : World)
-        → IsAt g h.view h.size (registry_of old) (shelf_of old) away [] [] u u
+        → IsAt g h (registry_of old) (shelf_of old) away [] [] u u
         → IsFilledFrom new away u
 
   -- If the bench stood for u it stands for another world, by commands that fit and no others.
@@ -71,8 +72,7 @@ module _ {S H : Type 0} (g : StoreGhosts S) (h : ShelfGhosts H) (Fit : Command �
     pub before : World
     pub run : Run u calls world answers
     pub fill : (call : Call) → Has calls call → Fit call.command
-    pub stands : Stands g h.view h.size (progress_of b) (registry_of b) (shelf_of b) away before
-        world
+    pub stands : Stands g h (progress_of b) (registry_of b) (shelf_of b) away before world
 
   -- A call that fills, of which the last command may still be to be settled.
   pub record FillsOn (old new : Bench S H) : Type 0 where
@@ -81,7 +81,7 @@ module _ {S H : Type 0} (g : StoreGhosts S) (h : ShelfGhosts H) (Fit : Command �
     pub keep : Keep g h (registry_of old) (registry_of new) (shelf_of old) (shelf_of new)
     pub does : h.honest (shelf_of old) → DiskKept g (registry_of new) → (away : Image)
         (v u : World)
-        → Stands g h.view h.size (progress_of old) (registry_of old) (shelf_of old) away v u
+        → Stands g h (progress_of old) (registry_of old) (shelf_of old) away v u
         → IsFilledOn new away u
 
 module _ {S H : Type 0} (g : StoreGhosts S) (h : ShelfGhosts H) where
@@ -93,7 +93,7 @@ module _ {S H : Type 0} (g : StoreGhosts S) (h : ShelfGhosts H) where
     pub world : World
     pub intents : List Intent
     pub bytes : List (List ℕ)
-    pub at : IsCarriedOut g h.view h.size (registry_of before) (shelf_of before) away intents bytes
+    pub at : IsCarriedOut g h (registry_of before) (shelf_of before) away intents bytes
         earlier world
     pub failed : HasRoom most_rows (seen g (registry_of before))
         → StoreFailed g (registry_of before) (registry_of new)
@@ -105,10 +105,10 @@ module _ {S H : Type 0} (g : StoreGhosts S) (h : ShelfGhosts H) where
     pub reopen : fault ≡ Closed → progress_of old ≡ Failed
     pub absent : (p : List ℕ) → fault ≡ Absent p → ⊥
     pub disk : h.honest (shelf_of old) → DiskKept g (registry_of new) → (away : Image)
-        (u : World) → IsAt g h.view h.size (registry_of old) (shelf_of old) away [] [] u u
+        (u : World) → IsAt g h (registry_of old) (shelf_of old) away [] [] u u
         → fault ≡ Disk → (h.view (shelf_of old)).faults < (h.view (shelf_of new)).faults
     pub store : h.honest (shelf_of old) → DiskKept g (registry_of new) → (away : Image)
-        (u : World) → IsAt g h.view h.size (registry_of old) (shelf_of old) away [] [] u u
+        (u : World) → IsAt g h (registry_of old) (shelf_of old) away [] [] u u
         → fault ≡ Store → StoreFailedLast new away
 
   -- The same of a bench that stands for a world, whatever is still to be settled.
@@ -117,11 +117,11 @@ module _ {S H : Type 0} (g : StoreGhosts S) (h : ShelfGhosts H) where
     pub absent : (p : List ℕ) → fault ≡ Absent p → ⊥
     pub disk : h.honest (shelf_of old) → DiskKept g (registry_of new) → (away : Image)
         (v u : World)
-        → Stands g h.view h.size (progress_of old) (registry_of old) (shelf_of old) away v u
+        → Stands g h (progress_of old) (registry_of old) (shelf_of old) away v u
         → fault ≡ Disk → (h.view (shelf_of old)).faults < (h.view (shelf_of new)).faults
     pub store : h.honest (shelf_of old) → DiskKept g (registry_of new) → (away : Image)
         (v u : World)
-        → Stands g h.view h.size (progress_of old) (registry_of old) (shelf_of old) away v u
+        → Stands g h (progress_of old) (registry_of old) (shelf_of old) away v u
         → fault ≡ Store → StoreFailedLast new away
 
 -- but for want of memory a fault closes the bench
@@ -135,7 +135,7 @@ pub record AreLastSeen {S H : Type 0} (g : StoreGhosts S) (h : ShelfGhosts H) (o
   pub seen : Held S
   pub looked : Reads g seen (registry_of new)
   pub has : h.honest (shelf_of old) → DiskKept g (registry_of new) → (away : Image) (u : World)
-      → IsAt g h.view h.size (registry_of old) (shelf_of old) away [] [] u u
+      → IsAt g h (registry_of old) (shelf_of old) away [] [] u u
       → (t : Tables) × HasTables g seen t
   pub are : DiskKept g (registry_of new) → (t : Tables) (r : Records)
       → HasTables g seen t → AreRecordsOf t r → state ≡ r
@@ -145,7 +145,7 @@ abbrev pub IsFilledTo : {S H : Type 0} → StoreGhosts S → ShelfGhosts H → B
     → Due → Records → Type 0
 IsFilledTo g h old new due state =
     h.honest (shelf_of old) → DiskKept g (registry_of new) → (away : Image) (u : World)
-    → IsAt g h.view h.size (registry_of old) (shelf_of old) away [] [] u u
+    → IsAt g h (registry_of old) (shelf_of old) away [] [] u u
     → (filled : IsFilledFrom g h (IsAdvanceIn due) new away u) × (state ≡ filled.world.state)
 
 -- Nothing that is due is left to be filled, by the records that the registry held at last. From
@@ -162,7 +162,25 @@ abbrev pub IsStill : {S H : Type 0} → StoreGhosts S → ShelfGhosts H → Benc
 IsStill g h old new due =
     h.honest (shelf_of old) → DiskKept g (registry_of new) → (t : Tables) (s : Records)
     → HasTables g (registry_of old) t → AreRecordsOf t s → next_of due s ≡ None
-    → LookDoes g h.view h.size (registry_of old) (registry_of new) (shelf_of old) (shelf_of new)
+    → LookDoes g h (registry_of old) (registry_of new) (shelf_of old) (shelf_of new)
+
+-- A call that only looks keeps both media; if it succeeds, they hold what they held, and the bench
+-- is as far as it was.
+pub record OnlyLooks {S H T : Type 0} (g : StoreGhosts S) (h : ShelfGhosts H) (old new : Bench S H)
+    (result : Result T BenchFault) : Type 0 where
+  pub keep : Keep g h (registry_of old) (registry_of new) (shelf_of old) (shelf_of new)
+  pub does : h.honest (shelf_of old) → DiskKept g (registry_of new)
+      → OnOk result (LookDoes g h (registry_of old) (registry_of new)
+      (shelf_of old) (shelf_of new))
+  pub stays : OnOk result (progress_of new ≡ progress_of old)
+
+-- A sync fills what is meant, but for what it passes over, and nothing else: if nothing of that is
+-- to be filled, it writes nothing, whatever the images hold, and if it ends whole, none is left.
+pub record Syncs {S H : Type 0} (g : StoreGhosts S) (h : ShelfGhosts H) (old new : Bench S H)
+    (scope : Scope) (synced : Synced) : Type 0 where
+  pub fills : Fills g h (IsAdvanceIn (but scope synced.passed_over)) old new
+  pub still : IsStill g h old new (but scope synced.passed_over)
+  pub whole : IfWhole (IsWhole g h old new (but scope synced.passed_over)) synced.ending
 
 -- each component of the mirrors that are meant, and aren't passed over, is shown as it is
 -- registered

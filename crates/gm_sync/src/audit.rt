@@ -1,12 +1,10 @@
 //! Which mirrors are passed over: those of which an image isn't as it is registered.
 
-ghost use Rattle.std.specs.Prelude.{◌≡◌, true, false, filter, IfErr, IfOk, OnOk};
+ghost use Rattle.std.specs.Prelude.{◌≡◌, true, false, filter, IfErr, IfOk};
 ghost use Rattle.gm_registry.specs.Registry.{DiskKept};
 ghost use Rattle.gm_bench.specs.Benches.{progress_of, registry_of, shelf_of};
-ghost use Rattle.gm_bench.specs.Calls.{Keep};
-ghost use Rattle.gm_bench.specs.Owed.{LookDoes};
 ghost use Rattle.gm_bench.specs.Phases.{TakesCommands};
-ghost use Rattle.gm_sync.specs.Filling.{FailsAsCalls, IsPassedOverAt};
+ghost use Rattle.gm_sync.specs.Filling.{FailsAsCalls, IsPassedOverAt, OnlyLooks};
 ghost use Rattle.gm_sync.specs.Scopes.{PassesNone, has_image, is_component_of, is_named_beside, mirrors_of};
 
 use crate::passed_over::PassedOver;
@@ -103,16 +101,11 @@ pub(crate) fn amiss<S: Alter, H: Shelf>(
 ) -> Result<PassedOver, BenchFault>
     requires { TakesCommands (progress_of bench.old) }
     ensures phase { TakesCommands (progress_of bench.new) }
-    ensures keep { Keep S.Store H.Shelf (registry_of bench.old) (registry_of bench.new)
-        (shelf_of bench.old) (shelf_of bench.new) }
-    ensures looks { H.honest (shelf_of bench.old) → DiskKept S.Store (registry_of bench.new)
-        → OnOk result (LookDoes S.Store H.view H.size (registry_of bench.old)
-        (registry_of bench.new) (shelf_of bench.old) (shelf_of bench.new)) }
+    ensures looks { OnlyLooks S.Store H.Shelf bench.old bench.new result }
     ensures told { audits ≡ true → H.honest (shelf_of bench.old)
         → DiskKept S.Store (registry_of bench.new)
         → IfOk result (IsPassedOverAt S.Store H.Shelf bench.old scope.now) }
     ensures unasked { audits ≡ false → IfOk result PassesNone }
-    ensures stays { OnOk result (progress_of bench.new ≡ progress_of bench.old) }
     ensures faults { IfErr result (FailsAsCalls S.Store H.Shelf bench.old bench.new) }
 {
     if !audits {

@@ -4,9 +4,7 @@ ghost use Rattle.std.specs.Prelude.{IfErr, IfOk};
 ghost use Rattle.gm_bench.specs.Benches.{progress_of, registry_of, shelf_of};
 ghost use Rattle.gm_bench.specs.Calls.{Keep};
 ghost use Rattle.gm_bench.specs.Phases.{TakesCommands};
-ghost use Rattle.gm_sync.specs.Filling.{FailsAsCalls, Fills, IsAdvanceIn, IsStill, IsWhole, PassesByAudit};
-ghost use Rattle.gm_sync.specs.Ends.{IfWhole};
-ghost use Rattle.gm_sync.specs.Scopes.{but};
+ghost use Rattle.gm_sync.specs.Filling.{FailsAsCalls, PassesByAudit, Syncs};
 
 use crate::audit::amiss;
 use crate::due::Due;
@@ -32,14 +30,7 @@ pub fn sync<S: Alter, H: Shelf, P: Progress>(
     ensures phase { TakesCommands (progress_of bench.new) }
     ensures keep { Keep S.Store H.Shelf (registry_of bench.old) (registry_of bench.new)
         (shelf_of bench.old) (shelf_of bench.new) }
-    // It fills what is meant, but for what it passes over, and nothing else.
-    ensures fills { IfOk result (λ synced. Fills S.Store H.Shelf
-        (IsAdvanceIn (but scope.now synced.passed_over)) bench.old bench.new) }
-    // If nothing of that is to be filled, it writes nothing, whatever the images hold.
-    ensures still { IfOk result (λ synced. IsStill S.Store H.Shelf bench.old bench.new
-        (but scope.now synced.passed_over)) }
-    ensures whole { IfOk result (λ synced. IfWhole (IsWhole S.Store H.Shelf bench.old bench.new
-        (but scope.now synced.passed_over)) synced.ending) }
+    ensures syncs { IfOk result (Syncs S.Store H.Shelf bench.old bench.new scope.now) }
     // What it passes over are just the mirrors of which an image isn't as it is registered.
     ensures audited { PassesByAudit S.Store H.Shelf bench.old bench.new scope.now audits result }
     ensures faults { IfErr result (FailsAsCalls S.Store H.Shelf bench.old bench.new) }

@@ -118,4 +118,29 @@ expect_taken 'its name' 6 'label --mid 8 --did 1 gm0 c.img'
 expect_taken 'its mid' 7 'label --mid 7 --did 1 gm1 c.img'
 expect_taken 'one of its images' 9 'label --mid 8 --did 1 gm1 b.img'
 expect_taken 'its name and its mid' 6 'label --mid 7 --did 1 gm0 c.img'
+
+# ---- a bar while data are compared, at a terminal
+
+if command -v script >/dev/null; then
+    fresh_bench compared
+    head -c 4194816 /dev/zero >"$bench/images/a.img"
+    head -c 4194816 /dev/zero >"$bench/images/b.img"
+    batch "${label}${insert}k3 advance gm0 b.img\n"
+    forget_registry
+    # The bench's place is named before the key of do.
+    for words in 'do PLACE k1 adopt gm0 a.img b.img' 'adopt PLACE --key k1 gm0 a.img b.img'; do
+        forget_registry
+        place="--registry \"$registry\" --shelf \"$bench/images\""
+        echo "\"$gmbench\" ${words%%PLACE*}$place${words#*PLACE} >\"$work/output\"" >"$work/typed"
+        script -qec "sh $work/typed" /dev/null </dev/null >"$work/terminal" 2>/dev/null
+        grep -q "$(printf '\r\033\[K')b.img [0-9]*% [0-9.]* of 4 MiB" "$work/terminal" && pass "$words: a bar says how far" ||
+            fail "$words: a bar says how far" "$(tail -n 3 "$work/terminal")"
+        [ "$(cat "$work/output")" = 'k1 ok 1' ] && pass "$words: it is adopted" || fail "$words: it is adopted" "$(cat "$work/output")"
+    done
+    forget_registry
+    at_bench adopt --key k1 gm0 a.img b.img
+    expect 'no word of it elsewhere' 0 'k1 ok 1' ''
+else
+    skip 'a bar while data are compared' 'there is no script(1) here'
+fi
 finish

@@ -1,7 +1,7 @@
 //! How many first sectors are equal. A run is 128 sectors.
 
 use super::{add, label, must};
-use gm_apply::equal_sectors;
+use gm_apply::{Unwatched, equal_sectors};
 use gm_shelf::{FaultShelf, MemShelf, Shelf, ShelfFault};
 use std::process::Abort;
 
@@ -40,7 +40,13 @@ fn count<H: Shelf>(
     second: &str,
     limit: u64,
 ) -> Result<u64, ShelfFault> {
-    equal_sectors(shelf, label(rt, first), label(rt, second), limit)
+    equal_sectors(
+        shelf,
+        label(rt, first),
+        label(rt, second),
+        limit,
+        &mut Unwatched,
+    )
 }
 
 // What is counted of two images of 300 sectors that differ at these places.

@@ -24,32 +24,34 @@ module _ (old one two : View) (first : IsQuiet old one) (second : IsQuiet one tw
 
 pub returns-in_err-read_run-clause-under_way : goal.returns-in_err-read_run-clause-under_way
 returns-in_err-read_run-clause-under_way g c h =
-    let view = g.H.Shelf.view in
+    let shelf = g.H.Shelf in
     let place = copies (Copy c.args.source c.args.target c.args.first
     (c.args.first + c.args.sectors)) in
-    let w = λ (q : List ℕ) (j : ℕ). (view c.args.shelf.now).seen c.args.source j in
-    going_quiet place w (view c.args.shelf.now) (view c.args.shelf.now) (view c.read_run.new.self)
-    (going_start place w (view c.args.shelf.now)) (c.read_run.ensures.quiet h)
+    let w = λ (q : List ℕ) (j : ℕ). (shelf.view c.args.shelf.now).seen c.args.source j in
+    going_quiet place w (shelf.view c.args.shelf.now) (shelf.view c.args.shelf.now)
+    (shelf.view c.read_run.new.self)
+    (going_start place w (shelf.view c.args.shelf.now)) (c.read_run.ensures.quiet h)
 
 pub returns-in_err-read_run-2-clause-under_way : goal.returns-in_err-read_run-2-clause-under_way
 returns-in_err-read_run-2-clause-under_way g c h =
-    let view = g.H.Shelf.view in
-    read_twice (view c.args.shelf.now) (view c.read_run.new.self) (view c.read_run-2.new.self)
+    let shelf = g.H.Shelf in
+    read_twice (shelf.view c.args.shelf.now) (shelf.view c.read_run.new.self)
+    (shelf.view c.read_run-2.new.self)
     (c.read_run.ensures.quiet h) (c.read_run-2.ensures.quiet (c.read_run.ensures.honest h))
     (copies (Copy c.args.source c.args.target c.args.first (c.args.first + c.args.sectors)))
-    (λ q j. (view c.args.shelf.now).seen c.args.source j)
+    (λ q j. (shelf.view c.args.shelf.now).seen c.args.source j)
 
 pub returns-in_err-write_changes-clause-under_way :
     goal.returns-in_err-write_changes-clause-under_way
 returns-in_err-write_changes-clause-under_way g c h =
-    let view = g.H.Shelf.view in
+    let shelf = g.H.Shelf in
     let one = c.read_run.ensures.honest h in
-    let old = view c.args.shelf.now in
-    let mid = view c.read_run.new.self in
-    let now = view c.read_run-2.new.self in
+    let old = shelf.view c.args.shelf.now in
+    let mid = shelf.view c.read_run.new.self in
+    let now = shelf.view c.read_run-2.new.self in
     let long : length c.read_run-2.new.out ≡ c.args.sectors = search rules in
     run_going c.args.source c.args.target c.args.first c.args.sectors old now
-    (view c.write_changes.new.shelf) c.read_run-2.new.out long
+    (shelf.view c.write_changes.new.shelf) c.read_run-2.new.out long
     (run_before old mid now (c.read_run.ensures.quiet h)
     (c.read_run-2.ensures.quiet one) c.args.source c.args.first c.read_run-2.new.out
     (c.in_ok-read_run-2.ensures.bytes one))
@@ -60,14 +62,14 @@ returns-in_err-write_changes-clause-under_way g c h =
 
 pub returns-clause-under_way : goal.returns-clause-under_way
 returns-clause-under_way g c h =
-    let view = g.H.Shelf.view in
+    let shelf = g.H.Shelf in
     let one = c.read_run.ensures.honest h in
-    let old = view c.args.shelf.now in
-    let mid = view c.read_run.new.self in
-    let now = view c.read_run-2.new.self in
+    let old = shelf.view c.args.shelf.now in
+    let mid = shelf.view c.read_run.new.self in
+    let now = shelf.view c.read_run-2.new.self in
     let long : length c.read_run-2.new.out ≡ c.args.sectors = search rules in
     run_going c.args.source c.args.target c.args.first c.args.sectors old now
-    (view c.write_changes.new.shelf) c.read_run-2.new.out long
+    (shelf.view c.write_changes.new.shelf) c.read_run-2.new.out long
     (run_before old mid now (c.read_run.ensures.quiet h)
     (c.read_run-2.ensures.quiet one) c.args.source c.args.first c.read_run-2.new.out
     (c.in_ok-read_run-2.ensures.bytes one))
@@ -78,11 +80,11 @@ returns-clause-under_way g c h =
 
 pub returns-clause-done : goal.returns-clause-done
 returns-clause-done g c h =
-    let view = g.H.Shelf.view in
+    let shelf = g.H.Shelf in
     let one = c.read_run.ensures.honest h in
-    let old = view c.args.shelf.now in
-    let mid = view c.read_run.new.self in
-    let now = view c.read_run-2.new.self in
+    let old = shelf.view c.args.shelf.now in
+    let mid = shelf.view c.read_run.new.self in
+    let now = shelf.view c.read_run-2.new.self in
     let long : length c.read_run-2.new.out ≡ c.args.sectors = search rules in
     let same : Same now.seen old.seen =
     same_twice old mid now (c.read_run.ensures.quiet h) (c.read_run-2.ensures.quiet one) in
@@ -90,7 +92,7 @@ returns-clause-done g c h =
     λ k few. c.in_ok-read_run.ensures.bytes h k few
     ∙ sym (same c.args.target (c.args.first + k)) in
     run_copied c.args.source c.args.target c.args.first c.args.sectors old now
-    (view c.write_changes.new.shelf) c.read_run-2.new.out long
+    (shelf.view c.write_changes.new.shelf) c.read_run-2.new.out long
     (run_before old mid now (c.read_run.ensures.quiet h)
     (c.read_run-2.ensures.quiet one) c.args.source c.args.first c.read_run-2.new.out
     (c.in_ok-read_run-2.ensures.bytes one))

@@ -8,10 +8,10 @@ use Rattle.gm_apply.proofs.copy.copy_runs.Goals as goal
 
 pub returns-in_err-copy_run-clause-under_way : goal.returns-in_err-copy_run-clause-under_way
 returns-in_err-copy_run-clause-under_way g c h =
-    let view = g.H.Shelf.view in
+    let shelf = g.H.Shelf in
     let inv = c.loop-place.invariant in
-    let old = view c.args.shelf.now in
-    let mid = view c.loop-place.shelf in
+    let old = shelf.view c.args.shelf.now in
+    let mid = shelf.view c.loop-place.shelf in
     let place = c.loop-place.place in
     let n = c.min-sectors.result in
     let fits : place + n ≤ c.args.end = search rules in
@@ -21,22 +21,22 @@ returns-in_err-copy_run-clause-under_way g c h =
     (λ q j. mid.seen c.args.source j)
     (run_told c.args.source c.args.target c.args.first c.args.end place n inv.low old mid
     (inv.seen h) fits)
-    old mid (view c.copy_run.new.shelf) (inv.going h) (c.copy_run.ensures.under_way
+    old mid (shelf.view c.copy_run.new.shelf) (inv.going h) (c.copy_run.ensures.under_way
     (inv.keeps.honest h))
 
 pub loop-place-preserved : goal.loop-place-preserved
 loop-place-preserved g c =
-    let view = g.H.Shelf.view in
+    let shelf = g.H.Shelf in
     let inv = c.loop-place.invariant in
-    let old = view c.args.shelf.now in
-    let mid = view c.loop-place.shelf in
+    let old = shelf.view c.args.shelf.now in
+    let mid = shelf.view c.loop-place.shelf in
     let place = c.loop-place.place in
     let n = c.min-sectors.result in
     let fits : place + n ≤ c.args.end = search rules in
     record {
       low = omega (arith, inv.low);
       reach = inl fits;
-      keeps = keeps_then g.H.Shelf _ _ _ inv.keeps c.copy_run.ensures.keeps;
+      keeps = keeps_then shelf _ _ _ inv.keeps c.copy_run.ensures.keeps;
       going = λ h.
           going_trans (copies (Copy c.args.source c.args.target c.args.first c.args.end))
           (λ q j. old.seen c.args.source j)
@@ -44,10 +44,10 @@ loop-place-preserved g c =
           (λ q j. mid.seen c.args.source j)
           (run_told c.args.source c.args.target c.args.first c.args.end place n inv.low old mid
           (inv.seen h) fits)
-          old mid (view c.copy_run.new.shelf) (inv.going h)
+          old mid (shelf.view c.copy_run.new.shelf) (inv.going h)
           (c.copy_run.ensures.under_way (inv.keeps.honest h));
       seen = λ h.
           run_seen c.args.source c.args.target c.args.first c.args.end place n inv.low old mid
-          (inv.seen h) (view c.copy_run.new.shelf).seen
+          (inv.seen h) (shelf.view c.copy_run.new.shelf).seen
           (c.in_ok-copy_run.ensures.done (inv.keeps.honest h));
     }

@@ -9,45 +9,48 @@ use Rattle.gm_apply.proofs.copy.write_changes.Goals.{then-same+in_ok-write_stret
 
 pub returns-in_err-write_stretch-clause-law : goal.returns-in_err-write_stretch-clause-law
 returns-in_err-write_stretch-clause-law g c h =
-    let view = g.H.Shelf.view in
+    let shelf = g.H.Shelf in
     let inv = c.loop-index.invariant in
     stretch_law c.args.target c.args.first c.args.run.now c.loop-index.from
     (c.loop-index.index - c.loop-index.from) (omega (arith, inv.behind))
-    (view c.args.shelf.now) (view c.loop-index.shelf) (view c.write_stretch.new.shelf) (inv.law h)
+    (shelf.view c.args.shelf.now) (shelf.view c.loop-index.shelf)
+    (shelf.view c.write_stretch.new.shelf) (inv.law h)
     (c.write_stretch.ensures.law (inv.keeps.honest h))
 
 pub returns-in_err-write_stretch-2-clause-law : goal.returns-in_err-write_stretch-2-clause-law
 returns-in_err-write_stretch-2-clause-law g c h =
-    let view = g.H.Shelf.view in
+    let shelf = g.H.Shelf in
     let inv = c.loop-index.invariant in
     stretch_law c.args.target c.args.first c.args.run.now c.loop-index.from
     (length c.args.run.now - c.loop-index.from) (omega (arith, inv.behind))
-    (view c.args.shelf.now) (view c.loop-index.shelf) (view c.write_stretch-2.new.shelf) (inv.law h)
+    (shelf.view c.args.shelf.now) (shelf.view c.loop-index.shelf)
+    (shelf.view c.write_stretch-2.new.shelf) (inv.law h)
     (c.write_stretch-2.ensures.law (inv.keeps.honest h))
 
 pub returns-clause-law : goal.returns-clause-law
 returns-clause-law g c h =
-    let view = g.H.Shelf.view in
+    let shelf = g.H.Shelf in
     let inv = c.loop-index.invariant in
     stretch_law c.args.target c.args.first c.args.run.now c.loop-index.from
     (length c.args.run.now - c.loop-index.from) (omega (arith, inv.behind))
-    (view c.args.shelf.now) (view c.loop-index.shelf) (view c.write_stretch-2.new.shelf) (inv.law h)
+    (shelf.view c.args.shelf.now) (shelf.view c.loop-index.shelf)
+    (shelf.view c.write_stretch-2.new.shelf) (inv.law h)
     (c.write_stretch-2.ensures.law (inv.keeps.honest h))
 
 pub returns-clause-written : goal.returns-clause-written
 returns-clause-written g c h held =
-    let view = g.H.Shelf.view in
+    let shelf = g.H.Shelf in
     let inv = c.loop-index.invariant in
     rest_seen c.args.target c.args.first c.args.run.now c.loop-index.from
-    (view c.args.shelf.now).seen (view c.loop-index.shelf).seen
-    (view c.write_stretch-2.new.shelf).seen (omega (arith, inv.behind)) (inv.seen h held)
+    (shelf.view c.args.shelf.now).seen (shelf.view c.loop-index.shelf).seen
+    (shelf.view c.write_stretch-2.new.shelf).seen (omega (arith, inv.behind)) (inv.seen h held)
     (c.in_ok-write_stretch-2.ensures.written (inv.keeps.honest h))
 
 pub loop-index-preserved : goal.loop-index-preserved
 loop-index-preserved g c =
-    let view = g.H.Shelf.view in
+    let shelf = g.H.Shelf in
     let inv = c.loop-index.invariant in
-    let old = view c.args.shelf.now in
+    let old = shelf.view c.args.shelf.now in
     elim c.if-same.branch [
       | then-same+in_ok-write_stretch w ↦
           let whole : c.loop-index.from + (c.loop-index.index - c.loop-index.from)
@@ -56,19 +59,20 @@ loop-index-preserved g c =
           ≡ sector_of c.args.run.now c.loop-index.index = search rules in
           rw (w.shelf-is, w.from-is) (record {
             behind = omega arith;
-            keeps = keeps_then g.H.Shelf _ _ _ inv.keeps w.write_stretch.ensures.keeps;
+            keeps = keeps_then shelf _ _ _ inv.keeps w.write_stretch.ensures.keeps;
             law = λ h. stretch_law c.args.target c.args.first c.args.run.now c.loop-index.from
                 (c.loop-index.index - c.loop-index.from) (omega (arith, inv.behind))
-                old (view c.loop-index.shelf) (view w.write_stretch.new.shelf) (inv.law h)
-                (w.write_stretch.ensures.law (inv.keeps.honest h));
+                old (shelf.view c.loop-index.shelf) (shelf.view w.write_stretch.new.shelf)
+                (inv.law h) (w.write_stretch.ensures.law (inv.keeps.honest h));
             seen = λ h held. put_same c.args.target c.args.first c.args.run.now old.seen
-                (view w.write_stretch.new.shelf).seen c.loop-index.index
+                (shelf.view w.write_stretch.new.shelf).seen c.loop-index.index
                 (sym equal ∙ held c.loop-index.index (omega (arith, c.requires.lengths)))
-                (subst (λ (n : ℕ). Same (view w.write_stretch.new.shelf).seen
+                (subst (λ (n : ℕ). Same (shelf.view w.write_stretch.new.shelf).seen
                 (put_upto c.args.target c.args.first c.args.run.now n old.seen)) whole
                 (stretch_seen c.args.target c.args.first c.args.run.now c.loop-index.from
                 (c.loop-index.index - c.loop-index.from) (omega (arith, inv.behind))
-                old.seen (view c.loop-index.shelf).seen (view w.write_stretch.new.shelf).seen
+                old.seen (shelf.view c.loop-index.shelf).seen
+                (shelf.view w.write_stretch.new.shelf).seen
                 (inv.seen h held) (w.in_ok-write_stretch.ensures.written (inv.keeps.honest h))));
           })
       | else-same w ↦ rw (w.shelf-is, w.from-is) (record {

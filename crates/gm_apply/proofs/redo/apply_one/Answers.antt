@@ -35,20 +35,21 @@ returns-in_ok-write_found-in-Meta-clause-done g c = rw c.in-Meta.is (λ h w says
 pub returns-in_err-write_last-in-Clear-clause-moments :
     goal.returns-in_err-write_last-in-Clear-clause-moments
 returns-in_err-write_last-in-Clear-clause-moments g c = rw c.in-Clear.is (λ h w says.
-    let view = g.H.Shelf.view in
-    let size = g.H.Shelf.size c.args.shelf.now in
-    moments_step size c.in-Clear.provider zeros w says (view c.args.shelf.now)
-    (view c.write_last.new.shelf)
-    (λ e. subst (λ z. Moments (last_of size c.in-Clear.provider) w (view c.args.shelf.now) (view z))
-    (sym (c.write_last.ensures.nothing_done e)) (at_start (view c.args.shelf.now) _))
+    let shelf = g.H.Shelf in
+    let size = shelf.size c.args.shelf.now in
+    moments_step size c.in-Clear.provider zeros w says (shelf.view c.args.shelf.now)
+    (shelf.view c.write_last.new.shelf)
+    (λ e. subst
+    (λ z. Moments (last_of size c.in-Clear.provider) w (shelf.view c.args.shelf.now) (shelf.view z))
+    (sym (c.write_last.ensures.nothing_done e)) (at_start (shelf.view c.args.shelf.now) _))
     (λ i is. c.write_last.ensures.moments i h is))
 
 pub returns-in_ok-write_last-in-Clear-clause-done :
     goal.returns-in_ok-write_last-in-Clear-clause-done
 returns-in_ok-write_last-in-Clear-clause-done g c = rw c.in-Clear.is (λ h w says.
-    let view = g.H.Shelf.view in
-    done_step (g.H.Shelf.size c.args.shelf.now) c.in-Clear.provider zeros w says
-    (view c.args.shelf.now) (view c.write_last.new.shelf)
+    let shelf = g.H.Shelf in
+    done_step (shelf.size c.args.shelf.now) c.in-Clear.provider zeros w says
+    (shelf.view c.args.shelf.now) (shelf.view c.write_last.new.shelf)
     (λ e. let r : Ok c.in_ok-write_last-in-Clear.field-0
     ≡ Err Absent = c.in_ok-write_last-in-Clear.ensures.absent.1 e in
     cc) (λ e. let r : Ok c.in_ok-write_last-in-Clear.field-0
@@ -58,34 +59,37 @@ returns-in_ok-write_last-in-Clear-clause-done g c = rw c.in-Clear.is (λ h w say
 pub returns-in_ok-write_last-in-Clear-clause-moments :
     goal.returns-in_ok-write_last-in-Clear-clause-moments
 returns-in_ok-write_last-in-Clear-clause-moments g c = rw c.in-Clear.is (λ h w says.
-    let view = g.H.Shelf.view in
-    let size = g.H.Shelf.size c.args.shelf.now in
-    moments_step size c.in-Clear.provider zeros w says (view c.args.shelf.now)
-    (view c.write_last.new.shelf)
-    (λ e. subst (λ z. Moments (last_of size c.in-Clear.provider) w (view c.args.shelf.now) (view z))
-    (sym (c.write_last.ensures.nothing_done e)) (at_start (view c.args.shelf.now) _))
+    let shelf = g.H.Shelf in
+    let size = shelf.size c.args.shelf.now in
+    moments_step size c.in-Clear.provider zeros w says (shelf.view c.args.shelf.now)
+    (shelf.view c.write_last.new.shelf)
+    (λ e. subst
+    (λ z. Moments (last_of size c.in-Clear.provider) w (shelf.view c.args.shelf.now) (shelf.view z))
+    (sym (c.write_last.ensures.nothing_done e)) (at_start (shelf.view c.args.shelf.now) _))
     (λ i is. c.write_last.ensures.moments i h is))
 
 pub returns-in_err-write_last-in-Clear-clause-others :
     goal.returns-in_err-write_last-in-Clear-clause-others
 returns-in_err-write_last-in-Clear-clause-others g c = rw c.in-Clear.is (λ h.
-    let view = g.H.Shelf.view in
-    let size = g.H.Shelf.size c.args.shelf.now in
-    others_step size c.in-Clear.provider zeros (view c.args.shelf.now) (view c.write_last.new.shelf)
-    (λ e. subst (λ z. KeepsOthers (last_of size c.in-Clear.provider) (view c.args.shelf.now)
-    (view z)) (sym (c.write_last.ensures.nothing_done e))
-    (keeps_start (last_of size c.in-Clear.provider) (view c.args.shelf.now)))
+    let shelf = g.H.Shelf in
+    let size = shelf.size c.args.shelf.now in
+    others_step size c.in-Clear.provider zeros (shelf.view c.args.shelf.now)
+    (shelf.view c.write_last.new.shelf)
+    (λ e. subst (λ z. KeepsOthers (last_of size c.in-Clear.provider) (shelf.view c.args.shelf.now)
+    (shelf.view z)) (sym (c.write_last.ensures.nothing_done e))
+    (keeps_start (last_of size c.in-Clear.provider) (shelf.view c.args.shelf.now)))
     (λ i is. c.write_last.ensures.moments i h is))
 
 pub returns-in_ok-write_last-in-Clear-clause-others :
     goal.returns-in_ok-write_last-in-Clear-clause-others
 returns-in_ok-write_last-in-Clear-clause-others g c = rw c.in-Clear.is (λ h.
-    let view = g.H.Shelf.view in
-    let size = g.H.Shelf.size c.args.shelf.now in
-    others_step size c.in-Clear.provider zeros (view c.args.shelf.now) (view c.write_last.new.shelf)
-    (λ e. subst (λ z. KeepsOthers (last_of size c.in-Clear.provider) (view c.args.shelf.now)
-    (view z)) (sym (c.write_last.ensures.nothing_done e))
-    (keeps_start (last_of size c.in-Clear.provider) (view c.args.shelf.now)))
+    let shelf = g.H.Shelf in
+    let size = shelf.size c.args.shelf.now in
+    others_step size c.in-Clear.provider zeros (shelf.view c.args.shelf.now)
+    (shelf.view c.write_last.new.shelf)
+    (λ e. subst (λ z. KeepsOthers (last_of size c.in-Clear.provider) (shelf.view c.args.shelf.now)
+    (shelf.view z)) (sym (c.write_last.ensures.nothing_done e))
+    (keeps_start (last_of size c.in-Clear.provider) (shelf.view c.args.shelf.now)))
     (λ i is. c.write_last.ensures.moments i h is))
 
 pub returns-in_err-write_found-in-Dirty-clause-moments :

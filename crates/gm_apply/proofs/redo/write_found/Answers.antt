@@ -19,33 +19,33 @@ said place found d w is told q j e =
 
 pub returns-in_err-write_meta-clause-moments : goal.returns-in_err-write_meta-clause-moments
 returns-in_err-write_meta-clause-moments g c h w told =
-    let view = g.H.Shelf.view in
-    let place = last_of (g.H.Shelf.size c.args.shelf.now) c.args.provider in
-    moments_step (g.H.Shelf.size c.args.shelf.now) c.args.provider (encoded c.in-Some.metadata) w
+    let shelf = g.H.Shelf in
+    let place = last_of (shelf.size c.args.shelf.now) c.args.provider in
+    moments_step (shelf.size c.args.shelf.now) c.args.provider (encoded c.in-Some.metadata) w
     (said place c.args.found c.in-Some.metadata w c.in-Some.is told)
-    (view c.args.shelf.now) (view c.write_meta.new.shelf)
-    (λ e. subst (λ z. Moments place w (view c.args.shelf.now) (view z))
-    (sym (c.write_meta.ensures.nothing_done e)) (at_start (view c.args.shelf.now) _))
+    (shelf.view c.args.shelf.now) (shelf.view c.write_meta.new.shelf)
+    (λ e. subst (λ z. Moments place w (shelf.view c.args.shelf.now) (shelf.view z))
+    (sym (c.write_meta.ensures.nothing_done e)) (at_start (shelf.view c.args.shelf.now) _))
     (λ i is. c.write_meta.ensures.moments i h is)
 
 pub returns-in_ok-write_meta-clause-moments : goal.returns-in_ok-write_meta-clause-moments
 returns-in_ok-write_meta-clause-moments g c h w told =
-    let view = g.H.Shelf.view in
-    let place = last_of (g.H.Shelf.size c.args.shelf.now) c.args.provider in
-    moments_step (g.H.Shelf.size c.args.shelf.now) c.args.provider (encoded c.in-Some.metadata) w
+    let shelf = g.H.Shelf in
+    let place = last_of (shelf.size c.args.shelf.now) c.args.provider in
+    moments_step (shelf.size c.args.shelf.now) c.args.provider (encoded c.in-Some.metadata) w
     (said place c.args.found c.in-Some.metadata w c.in-Some.is told)
-    (view c.args.shelf.now) (view c.write_meta.new.shelf)
-    (λ e. subst (λ z. Moments place w (view c.args.shelf.now) (view z))
-    (sym (c.write_meta.ensures.nothing_done e)) (at_start (view c.args.shelf.now) _))
+    (shelf.view c.args.shelf.now) (shelf.view c.write_meta.new.shelf)
+    (λ e. subst (λ z. Moments place w (shelf.view c.args.shelf.now) (shelf.view z))
+    (sym (c.write_meta.ensures.nothing_done e)) (at_start (shelf.view c.args.shelf.now) _))
     (λ i is. c.write_meta.ensures.moments i h is)
 
 pub returns-in_ok-write_meta-clause-done : goal.returns-in_ok-write_meta-clause-done
 returns-in_ok-write_meta-clause-done g c h w told =
-    let view = g.H.Shelf.view in
-    let place = last_of (g.H.Shelf.size c.args.shelf.now) c.args.provider in
-    done_step (g.H.Shelf.size c.args.shelf.now) c.args.provider (encoded c.in-Some.metadata) w
+    let shelf = g.H.Shelf in
+    let place = last_of (shelf.size c.args.shelf.now) c.args.provider in
+    done_step (shelf.size c.args.shelf.now) c.args.provider (encoded c.in-Some.metadata) w
     (said place c.args.found c.in-Some.metadata w c.in-Some.is told)
-    (view c.args.shelf.now) (view c.write_meta.new.shelf)
+    (shelf.view c.args.shelf.now) (shelf.view c.write_meta.new.shelf)
     (λ e. let r : Ok c.in_ok-write_meta.field-0
     ≡ Err Absent = c.in_ok-write_meta.ensures.absent.1 e in cc)
     (λ e. let r : Ok c.in_ok-write_meta.field-0
@@ -54,26 +54,26 @@ returns-in_ok-write_meta-clause-done g c h w told =
 
 pub returns-in_err-write_meta-clause-others : goal.returns-in_err-write_meta-clause-others
 returns-in_err-write_meta-clause-others g c h =
-    let view = g.H.Shelf.view in
-    let size = g.H.Shelf.size c.args.shelf.now in
+    let shelf = g.H.Shelf in
+    let size = shelf.size c.args.shelf.now in
     let place = last_of size c.args.provider in
-    keeps_within place _ (view c.args.shelf.now) (view c.write_meta.new.shelf)
+    keeps_within place _ (shelf.view c.args.shelf.now) (shelf.view c.write_meta.new.shelf)
     (written_meta (is_some c.args.found) place (ap is_some c.in-Some.is))
-    (others_step size c.args.provider (encoded c.in-Some.metadata) (view c.args.shelf.now)
-    (view c.write_meta.new.shelf)
-    (λ e. subst (λ z. KeepsOthers place (view c.args.shelf.now) (view z))
-    (sym (c.write_meta.ensures.nothing_done e)) (keeps_start place (view c.args.shelf.now)))
+    (others_step size c.args.provider (encoded c.in-Some.metadata) (shelf.view c.args.shelf.now)
+    (shelf.view c.write_meta.new.shelf)
+    (λ e. subst (λ z. KeepsOthers place (shelf.view c.args.shelf.now) (shelf.view z))
+    (sym (c.write_meta.ensures.nothing_done e)) (keeps_start place (shelf.view c.args.shelf.now)))
     (λ i is. c.write_meta.ensures.moments i h is))
 
 pub returns-in_ok-write_meta-clause-others : goal.returns-in_ok-write_meta-clause-others
 returns-in_ok-write_meta-clause-others g c h =
-    let view = g.H.Shelf.view in
-    let size = g.H.Shelf.size c.args.shelf.now in
+    let shelf = g.H.Shelf in
+    let size = shelf.size c.args.shelf.now in
     let place = last_of size c.args.provider in
-    keeps_within place _ (view c.args.shelf.now) (view c.write_meta.new.shelf)
+    keeps_within place _ (shelf.view c.args.shelf.now) (shelf.view c.write_meta.new.shelf)
     (written_meta (is_some c.args.found) place (ap is_some c.in-Some.is))
-    (others_step size c.args.provider (encoded c.in-Some.metadata) (view c.args.shelf.now)
-    (view c.write_meta.new.shelf)
-    (λ e. subst (λ z. KeepsOthers place (view c.args.shelf.now) (view z))
-    (sym (c.write_meta.ensures.nothing_done e)) (keeps_start place (view c.args.shelf.now)))
+    (others_step size c.args.provider (encoded c.in-Some.metadata) (shelf.view c.args.shelf.now)
+    (shelf.view c.write_meta.new.shelf)
+    (λ e. subst (λ z. KeepsOthers place (shelf.view c.args.shelf.now) (shelf.view z))
+    (sym (c.write_meta.ensures.nothing_done e)) (keeps_start place (shelf.view c.args.shelf.now)))
     (λ i is. c.write_meta.ensures.moments i h is))

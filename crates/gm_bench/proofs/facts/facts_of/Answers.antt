@@ -13,12 +13,13 @@ use Rattle.gm_bench.proofs.facts.facts_of.Goals.{in-Some+in-Ok, in-None}
 
 pub loop-name-preserved : goal.loop-name-preserved
 loop-name-preserved g c =
+    let j = g.H.Shelf in
     let inv = c.loop-name.invariant in
-    let size = g.H.Shelf.size c.args.shelf.now in
+    let size = j.size c.args.shelf.now in
     let against = c.args.against.now in
-    let mid = g.H.Shelf.size c.loop-name.shelf in
-    let seen = (g.H.Shelf.view c.args.shelf.now).seen in
-    let was = (g.H.Shelf.view c.loop-name.shelf).seen in
+    let mid = j.size c.loop-name.shelf in
+    let seen = (j.view c.args.shelf.now).seen in
+    let was = (j.view c.loop-name.shelf).seen in
     let name = c.name-item.result in
     elim c.match-branch-2.branch [
       | in-Some+in-Ok w ↦
@@ -33,7 +34,7 @@ loop-name-preserved g c =
             it.1,
           )) in
           record {
-            only = only_then g.H.Shelf _ _ _ inv.only c.fact_of.ensures.looks.only;
+            only = only_then j _ _ _ inv.only c.fact_of.ensures.looks.only;
             sizes = λ f has.
                 (elim (Has-push c.loop-name.entries.items w.in-Some.fact f
                 (subst (λ (l : List Fact). Has l f) more has)) [
@@ -67,7 +68,7 @@ loop-name-preserved g c =
           let more : c.match-branch-2.entries.items ≡ c.loop-name.entries.items =
           ap (λ v. v.items) w.entries-is in
           record {
-            only = only_then g.H.Shelf _ _ _ inv.only c.fact_of.ensures.looks.only;
+            only = only_then j _ _ _ inv.only c.fact_of.ensures.looks.only;
             sizes = λ f has. inv.sizes f (subst (λ (l : List Fact). Has l f) more has);
             facts = λ h f has. inv.facts h f (subst (λ (l : List Fact). Has l f) more has);
             covered = λ h q has. covered_more c.loop-name.entries.items
@@ -82,10 +83,11 @@ loop-name-preserved g c =
 
 pub returns-clause-tell : goal.returns-clause-tell
 returns-clause-tell g c h q has =
+    let j = g.H.Shelf in
     let inv = c.loop-name.invariant in
-    let size = g.H.Shelf.size c.args.shelf.now in
+    let size = j.size c.args.shelf.now in
     let against = c.args.against.now in
-    let seen = (g.H.Shelf.view c.args.shelf.now).seen in
+    let seen = (j.view c.args.shelf.now).seen in
     let all : take c.loop-name.name-index c.args.names.now ≡ c.args.names.now =
     take_all c.loop-name.name-index c.args.names.now (omega arith) in
     let covered = inv.covered h q (subst (λ (l : List (List ℕ)). Has l q) (sym all) has) in

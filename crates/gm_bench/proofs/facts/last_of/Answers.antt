@@ -6,6 +6,7 @@ use Rattle.gm_bench.proofs.facts.last_of.Goals as goal
 
 pub returns-clause-bytes : goal.returns-clause-bytes
 returns-clause-bytes g c h is =
+    let j = g.H.Shelf in
     c.unwrap_or.ensures ∙ (ap (λ o. unwrap_or o zeros) (c.in_ok-last.ensures.last h)
-    ∙ last_read (g.H.Shelf.size c.args.shelf.now) (g.H.Shelf.view c.args.shelf.now).seen
+    ∙ last_read (j.size c.args.shelf.now) (j.view c.args.shelf.now).seen
     c.args.provider c.args.sectors is)

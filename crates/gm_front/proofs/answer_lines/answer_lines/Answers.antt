@@ -14,8 +14,7 @@ loop-init g c = record {
     stays = λ h. h;
     sizes = refl;
     count = omega arith;
-    does = λ honest kept away u at. begun g.S.Store g.H.Shelf.view g.H.Shelf.size _ _ _ _ _ away u
-        c.requires.phase at;
+    does = λ honest kept away u at. begun g.S.Store g.H.Shelf _ _ _ _ _ away u c.requires.phase at;
   };
   takes = inl c.requires.phase;
   goes_on = λ other. other;
@@ -27,42 +26,42 @@ loop-init g c = record {
 pub returns-in_default-clause-does : goal.returns-in_default-clause-does
 returns-in_default-clause-does g c = λ honest kept away u at.
     let so = c.loop.invariant.going.does honest kept away u at in
-    inl (broken g.S.Store g.H.Shelf.view g.H.Shelf.size _ _ _ _ _ _ _ away u _ _ so so.told)
+    inl (broken g.S.Store g.H.Shelf _ _ _ _ _ _ _ away u _ _ so so.told)
 
 pub returns-then-eq-clause-does : goal.returns-then-eq-clause-does
 returns-then-eq-clause-does g c = λ honest kept away u at.
     let is_end : c.in-Ok.taken.found ≡ End = search rules in
     let so = c.loop.invariant.going.does honest kept away u at in
-    finished g.S.Store g.H.Shelf.view g.H.Shelf.size _ _ _ _ _ _ _ _ away u _ c.take_line.new.line
+    finished g.S.Store g.H.Shelf _ _ _ _ _ _ _ _ away u _ c.take_line.new.line
     so (rw is_end at c.in-Ok.ensures.line)
 
 pub returns-in_default-request_at-clause-does : goal.returns-in_default-request_at-clause-does
 returns-in_default-request_at-clause-does g c = λ honest kept away u at.
     let so = c.loop.invariant.going.does honest kept away u at in
-    inl (broken g.S.Store g.H.Shelf.view g.H.Shelf.size _ _ _ _ _ _ _ away u _ (AppendsFront _ _)
+    inl (broken g.S.Store g.H.Shelf _ _ _ _ _ _ _ away u _ (AppendsFront _ _)
     so (front_all _ _ _ so.told))
 
 pub returns-clause-does : goal.returns-clause-does
 returns-clause-does g c = λ honest kept away u at.
     let so = c.loop.invariant.going.does honest kept away u at in
-    inl (broken g.S.Store g.H.Shelf.view g.H.Shelf.size _ _ _ _ _ _ _ away u _ _ so so.told)
+    inl (broken g.S.Store g.H.Shelf _ _ _ _ _ _ _ away u _ _ so so.told)
 
 pub returns-in-Err-clause-does : goal.returns-in-Err-clause-does
 returns-in-Err-clause-does g c = λ honest kept away u at.
     let some : c.in-Ok.taken.found ≢ End = search rules in
     let going = c.loop.invariant.going in
     let so = going.does honest
-    (kept_before g.S.Store g.H.Shelf.view g.H.Shelf.size c.loop.bench.media.registry
+    (kept_before g.S.Store g.H.Shelf c.loop.bench.media.registry
     c.ask_next-outcome.new.bench.media.registry c.ask_next-outcome.ensures.keep.clean kept) away u
     at in
-    let comes = comes_so g.S.Store g.H.Shelf.view g.H.Shelf.size c.loop.bench.progress
+    let comes = comes_so g.S.Store g.H.Shelf c.loop.bench.progress
     c.ask_next-outcome.new.bench.progress c.loop.bench.media.registry
     c.ask_next-outcome.new.bench.media.registry c.loop.bench.media.shelf
     c.ask_next-outcome.new.bench.media.shelf away (asked_of c.in-Ok-request_at.request)
     (asked_at c.take_line.new.line c.in-Ok.taken.found)
     c.ask_next-outcome.result c.in-Ok-request_at.ensures
     (c.ask_next-outcome.ensures.comes (going.stays honest) kept away) in
-    told_in_part g.S.Store g.H.Shelf.view g.H.Shelf.size _ _ _ _ _ _ _ _ _ _ _ _ away u _
+    told_in_part g.S.Store g.H.Shelf _ _ _ _ _ _ _ _ _ _ _ _ away u _
     c.take_line.new.line c.in-Ok.taken.found c.ask_next-outcome.result _ so c.in-Ok.ensures.line
     some comes (far_failed c.loop.bench.progress c.ask_next-outcome.new.bench.progress
     _ c.ask_next-outcome.result c.ask_next-outcome.ensures.far)
@@ -73,23 +72,23 @@ returns-in-Failed-clause-does g c = λ honest kept away u at.
     let some : c.in-Ok.taken.found ≢ End = search rules in
     let going = c.loop.invariant.going in
     let so = going.does honest
-    (kept_before g.S.Store g.H.Shelf.view g.H.Shelf.size c.loop.bench.media.registry
+    (kept_before g.S.Store g.H.Shelf c.loop.bench.media.registry
     c.ask_next-outcome.new.bench.media.registry c.ask_next-outcome.ensures.keep.clean kept) away u
     at in
-    let comes = comes_so g.S.Store g.H.Shelf.view g.H.Shelf.size c.loop.bench.progress
+    let comes = comes_so g.S.Store g.H.Shelf c.loop.bench.progress
     c.ask_next-outcome.new.bench.progress c.loop.bench.media.registry
     c.ask_next-outcome.new.bench.media.registry c.loop.bench.media.shelf
     c.ask_next-outcome.new.bench.media.shelf away (asked_of c.in-Ok-request_at.request)
     (asked_at c.take_line.new.line c.in-Ok.taken.found)
     c.ask_next-outcome.result c.in-Ok-request_at.ensures
     (c.ask_next-outcome.ensures.comes (going.stays honest) kept away) in
-    let failed = comes_to g.S.Store g.H.Shelf.view g.H.Shelf.size c.loop.bench.progress
+    let failed = comes_to g.S.Store g.H.Shelf c.loop.bench.progress
     c.ask_next-outcome.new.bench.progress c.loop.bench.media.registry
     c.ask_next-outcome.new.bench.media.registry c.loop.bench.media.shelf
     c.ask_next-outcome.new.bench.media.shelf away
     (asked_at c.take_line.new.line c.in-Ok.taken.found)
     c.ask_next-outcome.result _ c.in-Failed.is comes in
-    let told = told_wholly g.S.Store g.H.Shelf.view g.H.Shelf.size c.loop.bench.progress
+    let told = told_wholly g.S.Store g.H.Shelf c.loop.bench.progress
     c.ask_next-outcome.new.bench.progress _ _ _ _ _ _ _ _ _ away u _
     c.take_line.new.line c.in-Ok.taken.found c.in-Failed.field-0 c.in-Failed.fault so
     c.in-Ok.ensures.line some failed
@@ -97,7 +96,7 @@ returns-in-Failed-clause-does g c = λ honest kept away u at.
       far_failed c.loop.bench.progress c.ask_next-outcome.new.bench.progress
           _ c.ask_next-outcome.result c.ask_next-outcome.ensures.far
           c.in-Failed.field-0 c.in-Failed.fault c.in-Failed.is,
-      stopped g.S.Store g.H.Shelf.view g.H.Shelf.size c.loop.bench.progress
+      stopped g.S.Store g.H.Shelf c.loop.bench.progress
           c.ask_next-outcome.new.bench.progress _ _ _ _ _ _ _ _ _ away u _
           c.take_line.new.line c.in-Ok.taken.found c.in-Failed.field-0 c.in-Failed.fault so
           c.in-Ok.ensures.line some failed
@@ -119,16 +118,16 @@ loop-preserved g c =
         count = omega (arith, going.count, asked.keep.shelf.count);
         does = λ honest kept away u at.
             let so = going.does honest
-            (kept_before g.S.Store g.H.Shelf.view g.H.Shelf.size c.loop.bench.media.registry
+            (kept_before g.S.Store g.H.Shelf c.loop.bench.media.registry
             c.ask_next-outcome.new.bench.media.registry asked.keep.clean kept) away u at in
-            let comes = comes_so g.S.Store g.H.Shelf.view g.H.Shelf.size c.loop.bench.progress
+            let comes = comes_so g.S.Store g.H.Shelf c.loop.bench.progress
             c.ask_next-outcome.new.bench.progress c.loop.bench.media.registry
             c.ask_next-outcome.new.bench.media.registry c.loop.bench.media.shelf
             c.ask_next-outcome.new.bench.media.shelf away (asked_of c.in-Ok-request_at.request)
             (asked_at c.take_line.new.line c.in-Ok.taken.found)
             c.ask_next-outcome.result c.in-Ok-request_at.ensures
             (asked.comes (going.stays honest) kept away) in
-            one_more g.S.Store g.H.Shelf.view g.H.Shelf.size _ _ _ _ _ _ _ _ _ _ _ away u _
+            one_more g.S.Store g.H.Shelf _ _ _ _ _ _ _ _ _ _ _ away u _
             c.take_line.new.line c.in-Ok.taken.found c.ask_next-outcome.result so
             c.in-Ok.ensures.line some comes
             _ _ c.is_refused_after-refused.ensures on c.in_default-tell.ensures.ok;

@@ -7,7 +7,7 @@ use Rattle.gm_front.proofs.answer_lines.answer_lines.Given as goal
 
 abbrev pub invariant-loop : goal.invariant-loop
 invariant-loop g l = record {
-  going : Going g.S.Store g.H.Shelf.view g.H.Shelf.size g.H.Shelf.honest l.bench.progress
+  going : Going g.S.Store g.H.Shelf g.H.Shelf.honest l.bench.progress
       (g.R.Read.remaining l.fn.reader) (g.R.Read.remaining l.reader)
       (g.W.Write.contents l.fn.writer) (g.W.Write.contents l.writer) l.fn.bench.media.registry
       l.bench.media.registry l.fn.bench.media.shelf l.bench.media.shelf l.refused;

@@ -9,12 +9,12 @@ use Rattle.gm_front.proofs.answer_lines.heard_batch.Goals as goal
 pub returns-in_default : goal.returns-in_default
 returns-in_default g c = record {
   does = λ honest kept away u at.
-      let so = begun g.S.Store g.H.Shelf.view g.H.Shelf.size c.args.bench.now.progress
+      let so = begun g.S.Store g.H.Shelf c.args.bench.now.progress
       (g.R.Read.remaining c.args.reader.now) (g.W.Write.contents c.args.writer.now) _ _ away u
       c.requires at in
-      ends_rest g.S.Store g.H.Shelf.view g.H.Shelf.size _ _ _ _ _ away u
+      ends_rest g.S.Store g.H.Shelf _ _ _ _ _ away u
       c.args.bench.now.progress c.requires (Err Memory)
-      (inl (broken g.S.Store g.H.Shelf.view g.H.Shelf.size _ _ _ _ _ _ _ away u _
+      (inl (broken g.S.Store g.H.Shelf _ _ _ _ _ _ _ away u _
       (AppendsFront _ _) so (front_all _ _ _ so.told)));
   progress = tt;
   phase = c.requires;

@@ -12,7 +12,7 @@ use Rattle.gm_front.proofs.finding.find.Goals as goal
 pub returns-in-Ok-clause-comes : goal.returns-in-Ok-clause-comes
 returns-in-Ok-clause-comes g c = λ honest kept away u at.
     let shelf = c.args.bench.now.media.shelf in
-    let records = records_shown g.S.Store g.H.Shelf.view g.H.Shelf.size _ shelf away u at
+    let records = records_shown g.S.Store g.H.Shelf _ shelf away u at
     (g.met.H.Shelf.lawful shelf honest) in
     let is : c.in-Ok.state ≡ u.state =
     c.in-Ok.ensures.shows kept at.tables u.state at.has records in
@@ -26,7 +26,7 @@ returns-in-Ok-clause-comes g c = λ honest kept away u at.
 pub returns-in-Ok-view-clause-comes : goal.returns-in-Ok-view-clause-comes
 returns-in-Ok-view-clause-comes g c = λ honest kept away u at.
     let shelf = c.args.bench.now.media.shelf in
-    let records = records_shown g.S.Store g.H.Shelf.view g.H.Shelf.size _ shelf away u at
+    let records = records_shown g.S.Store g.H.Shelf _ shelf away u at
     (g.met.H.Shelf.lawful shelf honest) in
     let is : c.in-Ok-view.state ≡ u.state =
     c.in-Ok-view.ensures.shows kept at.tables u.state at.has records in
@@ -41,7 +41,7 @@ returns-in-Ok-view-clause-comes g c = λ honest kept away u at.
 pub returns-in-Err-clause-comes : goal.returns-in-Err-clause-comes
 returns-in-Err-clause-comes g c = λ honest kept away u at.
     let shelf = c.args.bench.now.media.shelf in
-    let records = records_shown g.S.Store g.H.Shelf.view g.H.Shelf.size _ shelf away u at
+    let records = records_shown g.S.Store g.H.Shelf _ shelf away u at
     (g.met.H.Shelf.lawful shelf honest) in
     rw c.in-AllMirrors.is (look_fails g.S.Store g.H.Shelf c.args.bench.now c.view.new.self
     c.view.result c.view.ensures.looks honest kept away u at _ c.in-Err.fault (λ l. l) c.in-Err.is
@@ -51,7 +51,7 @@ returns-in-Err-clause-comes g c = λ honest kept away u at.
 pub returns-in-Err-view-clause-comes : goal.returns-in-Err-view-clause-comes
 returns-in-Err-view-clause-comes g c = λ honest kept away u at.
     let shelf = c.args.bench.now.media.shelf in
-    let records = records_shown g.S.Store g.H.Shelf.view g.H.Shelf.size _ shelf away u at
+    let records = records_shown g.S.Store g.H.Shelf _ shelf away u at
     (g.met.H.Shelf.lawful shelf honest) in
     rw c.in-OneMirror.is (look_fails g.S.Store g.H.Shelf c.args.bench.now
     c.view-in-OneMirror.new.self c.view-in-OneMirror.result c.view-in-OneMirror.ensures.looks
@@ -80,16 +80,16 @@ returns-in-Err-run-clause-comes g c = λ honest kept away u at.
     let shelf = c.args.bench.now.media.shelf in
     let lawful = g.met.H.Shelf.lawful shelf honest in
     let records : AreRecordsOf at.tables u.state =
-    records_shown g.S.Store g.H.Shelf.view g.H.Shelf.size _ shelf away u at lawful in
+    records_shown g.S.Store g.H.Shelf _ shelf away u at lawful in
     rw (c.in-Carry.is, ← c.as_str.ensures.value) (record {
       left = c.in-Err-run.ensures.leaves honest kept away u at;
       disk = λ is. c.in-Err-run.ensures.runs.disk kept at.tables u.state at.has records
           (ap Err is);
       readable = λ is found written.
-          let all : AreTablesOf found.tables u.state [] [] = tables_shown g.S.Store g.H.Shelf.view
-          g.H.Shelf.size _ shelf away u found lawful in
+          let all : AreTablesOf found.tables u.state [] [] = tables_shown g.S.Store g.H.Shelf
+          _ shelf away u found lawful in
           c.in-Err-run.ensures.readable kept (ap Err is) found.tables u.state found.has
-          (records_shown g.S.Store g.H.Shelf.view g.H.Shelf.size _ shelf away u found lawful)
+          (records_shown g.S.Store g.H.Shelf _ shelf away u found lawful)
           all.count written (honest_to_adopt g.H.Shelf shelf honest c.in-Carry.command);
     })
 
@@ -110,7 +110,6 @@ returns-in-Err-run-clause-store g c = λ honest kept away u at is room.
     let shelf = c.args.bench.now.media.shelf in
     let lawful = g.met.H.Shelf.lawful shelf honest in
     c.in-Err-run.ensures.store kept (store_of _ is) at.tables u.state at.has
-    (records_shown g.S.Store g.H.Shelf.view g.H.Shelf.size _ shelf away u at lawful)
-    (pending_none at.tables u.state (tables_shown g.S.Store g.H.Shelf.view g.H.Shelf.size _ shelf
-    away u at lawful))
+    (records_shown g.S.Store g.H.Shelf _ shelf away u at lawful)
+    (pending_none at.tables u.state (tables_shown g.S.Store g.H.Shelf _ shelf away u at lawful))
     room (honest_to_adopt g.H.Shelf shelf honest c.in-Carry.command)

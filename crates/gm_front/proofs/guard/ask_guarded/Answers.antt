@@ -25,7 +25,7 @@ returns-in_default g c = record {
   progress = c.ask.ensures.progress;
   closes = c.ask.ensures.closes;
   store = λ honest kept away u at.
-      store_told g.S.Store g.H.Shelf.view g.H.Shelf.size _ _ _ _ away u
+      store_told g.S.Store g.H.Shelf _ _ _ _ away u
       (asked_of c.args.request.now) c.ask.result (c.ask.ensures.comes honest kept away u at);
   keep = c.ask.ensures.keep;
 }
@@ -39,8 +39,7 @@ returns-in-Ok-clause-comes g c = λ honest kept away u at.
       mid = c.in_the_way.new.bench;
       looked = looks.does honest mid;
       comes = c.ask-in-Ok.ensures.comes (looks.only.keeps.honest honest) kept away u
-          (looked_at g.S.Store g.H.Shelf.view g.H.Shelf.size _ _ _ _ away [] [] u u
-          (looks.does honest mid) at);
+          (looked_at g.S.Store g.H.Shelf _ _ _ _ away [] [] u u (looks.does honest mid) at);
     }
 
 pub returns-in-Ok-clause-guarded : goal.returns-in-Ok-clause-guarded
@@ -64,7 +63,7 @@ returns-in-Err-clause-comes g c = λ honest kept away u at.
       disk = λ is. looks.disk (ap Err is);
       readable = λ is found written.
           c.in-Err.ensures.readable honest kept (ap Err is) found.tables u.state found.has
-          (records_shown g.S.Store g.H.Shelf.view g.H.Shelf.size _ _ away u found
+          (records_shown g.S.Store g.H.Shelf _ _ away u found
           (g.met.H.Shelf.lawful _ honest)) written;
     }
 
@@ -76,10 +75,9 @@ returns-in-Ok-clause-store g c = λ honest kept away u at is room.
     let read = looks.read honest mid at.tables at.has in
     failed_behind g.S.Store (registry_of c.args.bench.now) (registry_of c.in_the_way.new.bench)
     read.counts read.limit (registry_of c.ask-in-Ok.new.bench)
-    (store_told g.S.Store g.H.Shelf.view g.H.Shelf.size _ _ _ _ away u
-    (asked_of c.args.request.now) c.ask-in-Ok.result
+    (store_told g.S.Store g.H.Shelf _ _ _ _ away u (asked_of c.args.request.now) c.ask-in-Ok.result
     (c.ask-in-Ok.ensures.comes (looks.only.keeps.honest honest) kept away u
-    (looked_at g.S.Store g.H.Shelf.view g.H.Shelf.size _ _ _ _ away [] [] u u
+    (looked_at g.S.Store g.H.Shelf _ _ _ _ away [] [] u u
     (looks.does honest mid) at)) is (subst (HasRoom most_rows) (sym read.rows) room))
 
 pub returns-in-Err-clause-store : goal.returns-in-Err-clause-store

@@ -42,6 +42,7 @@ returns-in_err-list-clause-looks g c =
 
 pub returns-clause-stood : goal.returns-clause-stood
 returns-clause-stood g c = λ honest kept t s has are.
+    let j = g.H.Shelf in
     let first = c.in_ok-kept.ensures in
     let second = c.in_ok-list.ensures in
     let mid : DiskKept g.S.Store (registry_of c.kept.new.self) =
@@ -52,7 +53,7 @@ returns-clause-stood g c = λ honest kept t s has are.
     inl (
       free,
       subst (λ (x : g.row.H.Denot). IsUnlike (is_about c.args.command.now) s
-          (g.H.Shelf.size x) (g.H.Shelf.view x).seen c.in_ok-list.list.items) first.shelf
+          (j.size x) (j.view x).seen c.in_ok-list.list.items) first.shelf
           (second.unlike there kept t s ((first.looks.does honest mid).tables t has) are),
     )
 

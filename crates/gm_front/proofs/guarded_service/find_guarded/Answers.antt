@@ -44,8 +44,7 @@ returns-in-Ok-clause-finds g c = λ honest kept away u at.
       mid = c.in_the_way.new.bench;
       looked = looks.does honest mid;
       comes = c.find-in-Ok.ensures.comes (looks.only.keeps.honest honest) kept away u
-          (looked_at g.S.Store g.H.Shelf.view g.H.Shelf.size _ _ _ _ away [] [] u u
-          (looks.does honest mid) at);
+          (looked_at g.S.Store g.H.Shelf _ _ _ _ away [] [] u u (looks.does honest mid) at);
     })
 
 pub returns-in-Ok-clause-guarded : goal.returns-in-Ok-clause-guarded
@@ -82,13 +81,12 @@ returns-in-Err-clause-finds g c = λ honest kept away u at.
       mid = c.args.bench.now;
       looked = looks_nothing g.S.Store g.H.Shelf c.args.bench.now;
       comes = rw (c.in-Carry.is, ← c.as_str.ensures.value) (record {
-        left = run_of_look g.S.Store g.H.Shelf.view g.H.Shelf.size _ _ _ _ away u
-            c.as_str.result.now c.in-Carry.command
+        left = run_of_look g.S.Store g.H.Shelf _ _ _ _ away u c.as_str.result.now c.in-Carry.command
             (looks.leaves honest kept away [] [] u u at) looks.only.keeps.size;
         disk = λ is. looks.disk (ap Err is);
         readable = λ is found written.
             c.in-Err.ensures.readable honest kept (ap Err is) found.tables u.state found.has
-            (records_shown g.S.Store g.H.Shelf.view g.H.Shelf.size _ _ away u found
+            (records_shown g.S.Store g.H.Shelf _ _ away u found
             (g.met.H.Shelf.lawful _ honest)) written;
       });
     }
@@ -102,7 +100,7 @@ returns-in-Ok-clause-store g c = λ honest kept away u at is room.
     failed_behind g.S.Store (registry_of c.args.bench.now) (registry_of c.in_the_way.new.bench)
     read.counts read.limit (registry_of c.find-in-Ok.new.bench)
     (c.find-in-Ok.ensures.store (looks.only.keeps.honest honest) kept away u
-    (looked_at g.S.Store g.H.Shelf.view g.H.Shelf.size _ _ _ _ away [] [] u u
+    (looked_at g.S.Store g.H.Shelf _ _ _ _ away [] [] u u
     (looks.does honest mid) at) is (subst (HasRoom most_rows) (sym read.rows) room))
 
 pub returns-in-Err-clause-store : goal.returns-in-Err-clause-store

@@ -1,4 +1,4 @@
-use Rattle.std.proofs.Common.{refl, inl, subst}
+use Rattle.std.proofs.Common.{rules, refl, inl, subst}
 use Rattle.std.proofs.KnownBytes.{Keeps-refl}
 use Rattle.gm_http.specs.Requests.{asked_of}
 use Rattle.gm_front.specs.Demands.{Demand}
@@ -24,5 +24,11 @@ returns-clause-serves g c = λ honest kept input asks away u at.
     (found.ensures.guarded honest kept))
     c.tell-response.ensures.ok c.tell-response.ensures.front c.tell-response.ensures.fault)
 
-pub returns-clause-store : goal.returns-clause-store
-returns-clause-store g c = rw c.fault.ensures c.find_guarded-finding.ensures.store
+pub returns-clause-leaves : goal.returns-clause-leaves
+returns-clause-leaves g c = record {
+  progress = search rules;
+  phase = search rules;
+  closes = search rules;
+  store = rw c.fault.ensures c.find_guarded-finding.ensures.store;
+  keep = search rules;
+}

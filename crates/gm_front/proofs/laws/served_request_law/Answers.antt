@@ -3,5 +3,4 @@ use Rattle.gm_front.proofs.laws.served_request_law.Goals as goal
 
 pub returns : goal.returns
 returns g c all r s h k away acc ack input before now end fault rest it =
-    served_leaves g.S.Store g.H.Shelf.view g.H.Shelf.size all r s h k away acc ack rest input before
-    now end fault it
+    served_leaves g.S.Store g.H.Shelf all r s h k away acc ack rest input before now end fault it

@@ -3,5 +3,4 @@ use Rattle.gm_front.proofs.laws.whole_batch_law.Goals as goal
 
 pub returns : goal.returns
 returns g c all r h away acc ack input before now s k ended rest b =
-    batch_leaves all g.S.Store g.H.Shelf.view g.H.Shelf.size r h away acc ack input before now s k
-    ended rest b
+    batch_leaves all g.S.Store g.H.Shelf r h away acc ack input before now s k ended rest b

@@ -9,7 +9,7 @@ use Rattle.gm_front.proofs.next.hand_in.Goals as goal
 
 pub returns-then-follows-clause-answers : goal.returns-then-follows-clause-answers
 returns-then-follows-clause-answers g c h clean away v u stands =
-    kept_waiting g.S.Store g.H.Shelf.view g.H.Shelf.size c.hand_in.new.self.progress
+    kept_waiting g.S.Store g.H.Shelf c.hand_in.new.self.progress
     c.args.bench.now.media.registry c.hand_in.new.self.media.registry
     c.args.bench.now.media.shelf c.hand_in.new.self.media.shelf away v u c.args.key.now
     c.args.command.now c.in_ok-answer.answer
@@ -19,7 +19,7 @@ pub returns-clause-answers : goal.returns-clause-answers
 returns-clause-answers g c h clean away v u stands =
     let mid : DiskKept g.S.Store c.hand_in.new.self.media.registry =
     omega (arith, clean, c.settle_waiting.ensures.settles.clean) in
-    settled_next g.S.Store g.H.Shelf.view g.H.Shelf.size c.hand_in.new.self.progress
+    settled_next g.S.Store g.H.Shelf c.hand_in.new.self.progress
     c.args.bench.now.media.registry c.hand_in.new.self.media.registry
     c.args.bench.now.media.shelf c.hand_in.new.self.media.shelf away v u c.args.key.now
     c.args.command.now c.settle_waiting.new.self.progress
@@ -33,9 +33,9 @@ returns-in_err-answer-clause-fails g c h clean =
     passed_on _ c.from_residual.result _ c.from_residual.ensures.1 (λ away v u stands. (
     let shelf = c.args.bench.now.media.shelf in
     let lawful = g.met.H.Shelf.lawful shelf h in
-    let was = carried_so g.S.Store g.H.Shelf.view g.H.Shelf.size c.args.bench.now.progress
+    let was = carried_so g.S.Store g.H.Shelf c.args.bench.now.progress
     c.args.bench.now.media.registry shelf away v u stands in
-    let are = carried_tables g.S.Store g.H.Shelf.view g.H.Shelf.size
+    let are = carried_tables g.S.Store g.H.Shelf
     c.args.bench.now.media.registry shelf away was.intents was.bytes v u was.at lawful in
     let records = carried_records was.at.tables u.state
     was.intents was.bytes are in
@@ -48,7 +48,7 @@ returns-in_err-answer-clause-fails g c h clean =
           was.at.tables u.state was.intents was.bytes was.waits are) room
           (honest_to_adopt g.H.Shelf shelf h c.args.command.now);
       readable = λ is ts bytes at written.
-          (let all = carried_tables g.S.Store g.H.Shelf.view g.H.Shelf.size
+          (let all = carried_tables g.S.Store g.H.Shelf
           c.args.bench.now.media.registry shelf away ts bytes v u at lawful in
           c.in_err-answer.ensures.rows.readable clean (ap Err is) at.tables u.state at.has
           (carried_records at.tables u.state ts bytes
@@ -64,15 +64,15 @@ returns-in_err-settle_waiting-clause-fails g c h clean =
     omega (arith, clean, c.settle_waiting.ensures.settles.clean) in
     let shelf = c.args.bench.now.media.shelf in
     let lawful = g.met.H.Shelf.lawful shelf h in
-    let was = carried_so g.S.Store g.H.Shelf.view g.H.Shelf.size c.args.bench.now.progress
+    let was = carried_so g.S.Store g.H.Shelf c.args.bench.now.progress
     c.args.bench.now.media.registry shelf away v u stands in
-    let are = carried_tables g.S.Store g.H.Shelf.view g.H.Shelf.size
+    let are = carried_tables g.S.Store g.H.Shelf
     c.args.bench.now.media.registry shelf away was.intents was.bytes v u was.at lawful in
     let goes = c.in_ok-answer.ensures.rows.goes_on mid was.at.tables u.state was.at.has
     (carried_records was.at.tables u.state
     was.intents was.bytes are) in
     record {
-      left = unsettled_next g.S.Store g.H.Shelf.view g.H.Shelf.size
+      left = unsettled_next g.S.Store g.H.Shelf
           c.hand_in.new.self.progress c.args.bench.now.media.registry
           c.hand_in.new.self.media.registry shelf c.hand_in.new.self.media.shelf away v u
           c.args.key.now c.args.command.now c.settle_waiting.new.self.media.registry
@@ -85,7 +85,7 @@ returns-in_err-settle_waiting-clause-fails g c h clean =
       store = λ is room. failed_behind g.S.Store c.args.bench.now.media.registry
           c.hand_in.new.self.media.registry goes.counts goes.limit
           c.settle_waiting.new.self.media.registry
-          (c.in_err-settle_waiting.ensures.store clean (ap Err is) goes.tables goes.has);
+          (c.in_err-settle_waiting.ensures.settles.store clean (ap Err is) goes.tables goes.has);
       readable = λ is ts bytes at written.
           absurd (c.in_err-settle_waiting.ensures.settles.unreadable (ap Err is));
     }

@@ -1,4 +1,4 @@
-use Rattle.std.proofs.Common.{refl, inl, subst}
+use Rattle.std.proofs.Common.{rules, refl, inl, subst}
 use Rattle.std.proofs.KnownBytes.{Keeps-refl}
 use Rattle.gm_http.specs.Requests.{asked_of}
 use Rattle.gm_front.specs.Demands.{Demand}
@@ -12,14 +12,20 @@ returns-in_default-clause-serves g c = λ honest kept input asks away u at.
 
 pub returns-clause-serves : goal.returns-clause-serves
 returns-clause-serves g c = λ honest kept input asks away u at.
-    rw c.fault.ensures (served g.S.Store g.H.Shelf.view g.H.Shelf.size input _ _ _ _ _ _ away u
+    rw c.fault.ensures (served g.S.Store g.H.Shelf input _ _ _ _ _ _ away u
     (asked_of c.args.request) asks c.find-finding.result c.tell-response.result
-    (subst (λ (demand : Demand). ComesToFinding g.S.Store g.H.Shelf.view g.H.Shelf.size
+    (subst (λ (demand : Demand). ComesToFinding g.S.Store g.H.Shelf
     c.args.bench.now.media.registry c.find-finding.new.bench.media.registry
     c.args.bench.now.media.shelf c.find-finding.new.bench.media.shelf away u demand
     c.find-finding.result) c.in-Ok.ensures
     (c.find-finding.ensures.comes honest kept away u at))
     c.tell-response.ensures.ok c.tell-response.ensures.front c.tell-response.ensures.fault)
 
-pub returns-clause-store : goal.returns-clause-store
-returns-clause-store g c = rw c.fault.ensures c.find-finding.ensures.store
+pub returns-clause-leaves : goal.returns-clause-leaves
+returns-clause-leaves g c = record {
+  progress = search rules;
+  phase = search rules;
+  closes = search rules;
+  store = rw c.fault.ensures c.find-finding.ensures.store;
+  keep = search rules;
+}

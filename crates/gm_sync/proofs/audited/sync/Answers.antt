@@ -9,31 +9,24 @@ use Rattle.gm_sync.proofs.Filled.{fills_look, fills_then, whole_behind}
 use Rattle.gm_sync.proofs.Still.{still_then}
 use Rattle.gm_sync.proofs.audited.sync.Goals as goal
 
-pub returns-clause-fills : goal.returns-clause-fills
-returns-clause-fills g c =
+pub returns-clause-syncs : goal.returns-clause-syncs
+returns-clause-syncs g c =
     let due = but c.args.scope.now c.in_ok-passed_over.passed_over in
-    fills_then g.S.Store g.H.Shelf (IsAdvanceIn due) c.args.bench.now c.amiss.new.bench
-    c.fill.new.bench
-    (fills_look g.S.Store g.H.Shelf (IsAdvanceIn due) c.args.bench.now c.amiss.new.bench
-    c.in_ok-passed_over.ensures.stays c.in_ok-passed_over.ensures.keep
-    c.in_ok-passed_over.ensures.looks)
-    c.in_ok-ending.ensures.fills
-
-pub returns-clause-still : goal.returns-clause-still
-returns-clause-still g c =
-    still_then g.S.Store g.H.Shelf (but c.args.scope.now c.in_ok-passed_over.passed_over)
-    c.args.bench.now c.amiss.new.bench c.fill.new.bench c.in_ok-passed_over.ensures.keep
-    c.in_ok-ending.ensures.keep c.in_ok-passed_over.ensures.looks c.in_ok-ending.ensures.still
-
-pub returns-clause-whole : goal.returns-clause-whole
-returns-clause-whole g c =
-    let due = but c.args.scope.now c.in_ok-passed_over.passed_over in
-    whole_too (IsWhole g.S.Store g.H.Shelf c.amiss.new.bench c.fill.new.bench due)
-    (IsWhole g.S.Store g.H.Shelf c.args.bench.now c.fill.new.bench due)
-    (λ state whole.
-    whole_behind g.S.Store g.H.Shelf c.args.bench.now c.amiss.new.bench c.fill.new.bench due
-    state c.in_ok-passed_over.ensures.keep c.in_ok-ending.ensures.keep
-    c.in_ok-passed_over.ensures.looks whole) c.in_ok-ending.ending c.in_ok-ending.ensures.whole
+    let looks = c.in_ok-passed_over.ensures.looks in
+    let filled = c.in_ok-ending.ensures in
+    record {
+      fills = fills_then g.S.Store g.H.Shelf (IsAdvanceIn due) c.args.bench.now c.amiss.new.bench
+          c.fill.new.bench
+          (fills_look g.S.Store g.H.Shelf (IsAdvanceIn due) c.args.bench.now c.amiss.new.bench
+          looks.stays looks.keep looks.does) filled.fills;
+      still = still_then g.S.Store g.H.Shelf due c.args.bench.now c.amiss.new.bench
+          c.fill.new.bench looks.keep filled.keep looks.does filled.still;
+      whole = whole_too (IsWhole g.S.Store g.H.Shelf c.amiss.new.bench c.fill.new.bench due)
+          (IsWhole g.S.Store g.H.Shelf c.args.bench.now c.fill.new.bench due)
+          (λ state whole. whole_behind g.S.Store g.H.Shelf c.args.bench.now c.amiss.new.bench
+          c.fill.new.bench due state looks.keep filled.keep looks.does whole)
+          c.in_ok-ending.ending filled.whole;
+    }
 
 pub returns-clause-audited : goal.returns-clause-audited
 returns-clause-audited g c =
@@ -51,6 +44,6 @@ returns-in_err-ending-clause-faults g c =
     (fails_then g.S.Store g.H.Shelf (IsAdvanceIn due) c.args.bench.now c.amiss.new.bench
     c.fill.new.bench _
     (fills_look g.S.Store g.H.Shelf (IsAdvanceIn due) c.args.bench.now c.amiss.new.bench
-    c.in_ok-passed_over.ensures.stays c.in_ok-passed_over.ensures.keep
-    c.in_ok-passed_over.ensures.looks)
+    c.in_ok-passed_over.ensures.looks.stays c.in_ok-passed_over.ensures.looks.keep
+    c.in_ok-passed_over.ensures.looks.does)
     c.in_err-ending.ensures.keep c.in_err-ending.ensures.faults)

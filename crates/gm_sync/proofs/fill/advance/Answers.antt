@@ -24,18 +24,18 @@ returns-in_err-answer-in-Ok-clause-faults g c =
       absent = λ p e. ran.closes.absent p (ap Err e);
       disk = λ honest kept away v u stands e.
           let shelf = c.args.bench.now.media.shelf in
-          let was = carried_so g.S.Store g.H.Shelf.view g.H.Shelf.size c.args.bench.now.progress
+          let was = carried_so g.S.Store g.H.Shelf c.args.bench.now.progress
           c.args.bench.now.media.registry shelf away v u stands in
-          let are = carried_tables g.S.Store g.H.Shelf.view g.H.Shelf.size
+          let are = carried_tables g.S.Store g.H.Shelf
           c.args.bench.now.media.registry shelf away was.intents was.bytes v u was.at
           (g.met.H.Shelf.lawful shelf honest) in
           ran.runs.disk kept was.at.tables u.state was.at.has
           (carried_records was.at.tables u.state was.intents was.bytes are) (ap Err e);
       store = λ honest kept away v u stands e.
           let shelf = c.args.bench.now.media.shelf in
-          let was = carried_so g.S.Store g.H.Shelf.view g.H.Shelf.size c.args.bench.now.progress
+          let was = carried_so g.S.Store g.H.Shelf c.args.bench.now.progress
           c.args.bench.now.media.registry shelf away v u stands in
-          let are = carried_tables g.S.Store g.H.Shelf.view g.H.Shelf.size
+          let are = carried_tables g.S.Store g.H.Shelf
           c.args.bench.now.media.registry shelf away was.intents was.bytes v u was.at
           (g.met.H.Shelf.lawful shelf honest) in
           record {

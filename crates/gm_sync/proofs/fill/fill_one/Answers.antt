@@ -40,4 +40,4 @@ returns-in_err-settled-clause-faults g c =
     (λ e. c.in_err-settled.ensures.closes.reopen (ap Err e))
     (λ p e. c.in_err-settled.ensures.closes.absent p (ap Err e))
     (λ e. c.in_err-settled.ensures.settles.disk (ap Err e))
-    (λ kept e. c.in_err-settled.ensures.store kept (ap Err e))))
+    (λ kept e. c.in_err-settled.ensures.settles.store kept (ap Err e))))

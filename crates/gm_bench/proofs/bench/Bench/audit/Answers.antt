@@ -7,14 +7,13 @@ use Rattle.gm_bench.proofs.bench.Bench.audit.Goals as goal
 
 pub returns-in-Ok-clause-audits : goal.returns-in-Ok-clause-audits
 returns-in-Ok-clause-audits g c h clean t s has are =
-    let size = g.H.Shelf.size in
-    let view = g.H.Shelf.view in
+    let j = g.H.Shelf in
     let shelf = shelf_of c.args.self.now in
     let here : g.H.Shelf.honest (shelf_of c.view.new.self) =
     subst g.H.Shelf.honest (sym c.in_ok-state.ensures.shelf) h in
-    subst (λ (x : Records). IsAudit x (size shelf) (view shelf).seen c.in-Ok.names.items)
+    subst (λ (x : Records). IsAudit x (j.size shelf) (j.view shelf).seen c.in-Ok.names.items)
     (c.in_ok-state.ensures.shows clean t s has are)
-    (subst (λ (x : g.row.H.Denot). IsAudit c.in_ok-state.state (size x) (view x).seen
+    (subst (λ (x : g.row.H.Denot). IsAudit c.in_ok-state.state (j.size x) (j.view x).seen
     c.in-Ok.names.items)
     c.in_ok-state.ensures.shelf (c.in-Ok.ensures.audit here))
 

@@ -11,7 +11,7 @@ use Rattle.gm_bench.proofs.bench.Bench.open.Goals as goal
 
 pub returns-in-Err-clause-leaves : goal.returns-in-Err-clause-leaves
 returns-in-Err-clause-leaves g c h is_open clean =
-    not_opened g.S.Store g.H.Shelf.view g.H.Shelf.size c.args.store c.in-Err.e.store c.args.shelf
+    not_opened g.S.Store g.H.Shelf c.args.store c.in-Err.e.store c.args.shelf
     (g.met.H.Shelf.lawful c.args.shelf h)
     (λ db left. g.met.S.Store.settled c.args.store.store db is_open left) clean
     (c.in-Err.ensures.opens is_open).left
@@ -45,7 +45,7 @@ returns-in-Ok-take_up-clause-opened g c =
           let mid : DiskKept g.S.Store c.in-Ok.registry =
           omega (arith, clean, c.take_up.ensures.keep.clean) in
           let it = c.in-Ok.ensures.opens is_open in
-          let at = found_at g.S.Store g.H.Shelf.view g.H.Shelf.size c.args.store c.in-Ok.registry
+          let at = found_at g.S.Store g.H.Shelf c.args.store c.in-Ok.registry
           c.args.shelf (it.opened mid) away u w was in
           (c.in-Ok-take_up.ensures.done h clean away was.recovers.intents was.recovers.bytes u w
           at).1);
@@ -53,7 +53,7 @@ returns-in-Ok-take_up-clause-opened g c =
           let mid : DiskKept g.S.Store c.in-Ok.registry =
           omega (arith, clean, c.take_up.ensures.keep.clean) in
           let it = c.in-Ok.ensures.opens is_open in
-          let at = found_at g.S.Store g.H.Shelf.view g.H.Shelf.size c.args.store c.in-Ok.registry
+          let at = found_at g.S.Store g.H.Shelf c.args.store c.in-Ok.registry
           c.args.shelf (it.opened mid) away u w was in
           (c.in-Ok-take_up.ensures.done h clean away was.recovers.intents was.recovers.bytes u w
           at).0);
@@ -69,7 +69,7 @@ returns-in-Ok-take_up-clause-leaves g c h is_open clean =
     let mid : DiskKept g.S.Store c.in-Ok.registry =
     omega (arith, clean, c.take_up.ensures.keep.clean) in
     let it = c.in-Ok.ensures.opens is_open in
-    opens_over g.S.Store g.H.Shelf.view g.H.Shelf.size c.args.store c.in-Ok.registry c.args.shelf
+    opens_over g.S.Store g.H.Shelf c.args.store c.in-Ok.registry c.args.shelf
     (g.met.H.Shelf.lawful c.args.shelf h)
     (λ db left. g.met.S.Store.settled c.args.store.store db is_open left) mid it.left
     (it.opened mid) c.take_up.new.self.registry c.take_up.new.self.shelf
@@ -82,9 +82,9 @@ returns-in-Err-take_up-clause-leaves g c h is_open closed =
     let mid : DiskKept g.S.Store c.in-Ok.registry =
     omega (arith, clean, c.take_up.ensures.keep.clean) in
     let it = c.in-Ok.ensures.opens is_open in
-    subst (λ (k : Held g.row.S.Denot). OpenLeaves g.S.Store g.H.Shelf.view g.H.Shelf.size
+    subst (λ (k : Held g.row.S.Denot). OpenLeaves g.S.Store g.H.Shelf
     c.args.store k c.args.shelf c.take_up.new.self.shelf) (sym c.close.ensures)
-    (opens_over g.S.Store g.H.Shelf.view g.H.Shelf.size c.args.store c.in-Ok.registry c.args.shelf
+    (opens_over g.S.Store g.H.Shelf c.args.store c.in-Ok.registry c.args.shelf
     (g.met.H.Shelf.lawful c.args.shelf h)
     (λ db left. g.met.S.Store.settled c.args.store.store db is_open left) mid it.left
     (it.opened mid) c.take_up.new.self.registry c.take_up.new.self.shelf

@@ -16,7 +16,7 @@ use Rattle.gm_bench.proofs.bench.Bench.open_without.Goals as goal
 
 pub returns-in-Err-clause-leaves : goal.returns-in-Err-clause-leaves
 returns-in-Err-clause-leaves g c h is_open clean =
-    inl (not_opened g.S.Store g.H.Shelf.view g.H.Shelf.size c.args.store c.in-Err.e.store
+    inl (not_opened g.S.Store g.H.Shelf c.args.store c.in-Err.e.store
     c.args.shelf (g.met.H.Shelf.lawful c.args.shelf h)
     (λ db left. g.met.S.Store.settled c.args.store.store db is_open left) clean
     (c.in-Err.ensures.opens is_open).left)
@@ -34,7 +34,7 @@ returns-in-Ok-Carried-clause-leaves g c h is_open clean =
     → db ≡ stored g.S.Store c.args.store =
     λ db left. g.met.S.Store.settled c.args.store.store db is_open left in
     let lawful = g.met.H.Shelf.lawful c.args.shelf h in
-    given_up g.S.Store g.H.Shelf.view g.H.Shelf.size c.args.store c.in-Ok.registry c.args.shelf
+    given_up g.S.Store g.H.Shelf c.args.store c.in-Ok.registry c.args.shelf
     (it.opened mid) lawful only mid it.left c.args.key.now c.args.provider
     c.take_up_without.new.self.registry c.take_up_without.new.self.shelf
     (c.take_up_without.ensures.leaves h clean)
@@ -50,10 +50,10 @@ returns-in-Ok-NotLost-clause-leaves g c h is_open closed =
     → db ≡ stored g.S.Store c.args.store =
     λ db left. g.met.S.Store.settled c.args.store.store db is_open left in
     let lawful = g.met.H.Shelf.lawful c.args.shelf h in
-    subst (λ (k : Held g.row.S.Denot). GivesUp g.S.Store g.H.Shelf.view g.H.Shelf.size c.args.store
+    subst (λ (k : Held g.row.S.Denot). GivesUp g.S.Store g.H.Shelf c.args.store
     c.args.shelf c.args.key.now c.args.provider k c.take_up_without.new.self.shelf)
     (sym c.close.ensures)
-    (given_up g.S.Store g.H.Shelf.view g.H.Shelf.size c.args.store c.in-Ok.registry c.args.shelf
+    (given_up g.S.Store g.H.Shelf c.args.store c.in-Ok.registry c.args.shelf
     (it.opened mid) lawful only mid it.left c.args.key.now c.args.provider
     c.take_up_without.new.self.registry c.take_up_without.new.self.shelf
     (c.take_up_without.ensures.leaves h clean))
@@ -70,10 +70,10 @@ returns-in-Err-take_up_without-clause-leaves g c h is_open closed =
     → db ≡ stored g.S.Store c.args.store =
     λ db left. g.met.S.Store.settled c.args.store.store db is_open left in
     let lawful = g.met.H.Shelf.lawful c.args.shelf h in
-    subst (λ (k : Held g.row.S.Denot). GivesUp g.S.Store g.H.Shelf.view g.H.Shelf.size c.args.store
+    subst (λ (k : Held g.row.S.Denot). GivesUp g.S.Store g.H.Shelf c.args.store
     c.args.shelf c.args.key.now c.args.provider k c.take_up_without.new.self.shelf)
     (sym c.close-in-Err-take_up_without.ensures)
-    (given_up g.S.Store g.H.Shelf.view g.H.Shelf.size c.args.store c.in-Ok.registry c.args.shelf
+    (given_up g.S.Store g.H.Shelf c.args.store c.in-Ok.registry c.args.shelf
     (it.opened mid) lawful only mid it.left c.args.key.now c.args.provider
     c.take_up_without.new.self.registry c.take_up_without.new.self.shelf
     (c.take_up_without.ensures.leaves h clean))
@@ -127,11 +127,11 @@ returns-in-Ok-Carried-clause-opened g c =
             progress = Ready;
             redone = c.in-Ok-Carried.redone;
           } in
-          answered g.S.Store g.H.Shelf.view g.H.Shelf.size c.args.store c.in-Ok.registry
+          answered g.S.Store g.H.Shelf c.args.store c.in-Ok.registry
           c.args.shelf (it.opened mid) c.args.key.now c.args.provider b
           c.in-Ok-Carried.answer c.in-Ok-Carried.redone refl
           (subst
-          (λ (x : TakenUp). DoesWithout g.S.Store g.H.Shelf.view g.H.Shelf.size c.args.key.now
+          (λ (x : TakenUp). DoesWithout g.S.Store g.H.Shelf c.args.key.now
           c.args.provider c.in-Ok.registry c.take_up_without.new.self.registry c.args.shelf
           c.take_up_without.new.self.shelf x) c.in-Ok-Carried.field-0-is
           (c.in-Ok-Carried.ensures.does h clean)));
@@ -148,11 +148,11 @@ returns-in-Ok-Carried-clause-opened g c =
             progress = Ready;
             redone = c.in-Ok-Carried.redone;
           } in
-          undone g.S.Store g.H.Shelf.view g.H.Shelf.size c.args.store c.in-Ok.registry c.args.shelf
+          undone g.S.Store g.H.Shelf c.args.store c.in-Ok.registry c.args.shelf
           (it.opened mid) lawful only mid it.left c.args.key.now c.args.provider b
           c.in-Ok-Carried.answer c.in-Ok-Carried.redone
           (subst
-          (λ (x : TakenUp). KeepsUndone g.S.Store g.H.Shelf.view g.H.Shelf.size c.args.key.now
+          (λ (x : TakenUp). KeepsUndone g.S.Store g.H.Shelf c.args.key.now
           c.args.provider c.in-Ok.registry c.take_up_without.new.self.registry c.args.shelf
           c.take_up_without.new.self.shelf x) c.in-Ok-Carried.field-0-is
           (c.in-Ok-Carried.ensures.undone h clean)));
@@ -169,12 +169,12 @@ returns-in-Ok-NotLost-clause-opened g c =
           let mid : DiskKept g.S.Store c.in-Ok.registry =
           omega (arith, clean, c.take_up_without.ensures.keep.clean) in
           let it = c.in-Ok.ensures.opens is_open in
-          let does = subst (λ (x : TakenUp). DoesWithout g.S.Store g.H.Shelf.view g.H.Shelf.size
+          let does = subst (λ (x : TakenUp). DoesWithout g.S.Store g.H.Shelf
           c.args.key.now c.args.provider c.in-Ok.registry c.take_up_without.new.self.registry
           c.args.shelf c.take_up_without.new.self.shelf x) c.in-Ok-NotLost.field-0-is
           (c.in-Ok-NotLost.ensures.does h clean) in
           λ away u w left. does away left.recovers.intents left.recovers.bytes u w
-          (found_at g.S.Store g.H.Shelf.view g.H.Shelf.size c.args.store c.in-Ok.registry
+          (found_at g.S.Store g.H.Shelf c.args.store c.in-Ok.registry
           c.args.shelf (it.opened mid) away u w left));
       undone = λ h is_open closed. (
           let clean : DiskKept g.S.Store c.take_up_without.new.self.registry =
@@ -186,13 +186,13 @@ returns-in-Ok-NotLost-clause-opened g c =
           → db ≡ stored g.S.Store c.args.store =
           λ db left. g.met.S.Store.settled c.args.store.store db is_open left in
           let lawful = g.met.H.Shelf.lawful c.args.shelf h in
-          let keeps = subst (λ (x : TakenUp). KeepsUndone g.S.Store g.H.Shelf.view g.H.Shelf.size
+          let keeps = subst (λ (x : TakenUp). KeepsUndone g.S.Store g.H.Shelf
           c.args.key.now c.args.provider c.in-Ok.registry c.take_up_without.new.self.registry
           c.args.shelf c.take_up_without.new.self.shelf x) c.in-Ok-NotLost.field-0-is
           (c.in-Ok-NotLost.ensures.undone h clean) in
-          subst (λ (k : Held g.row.S.Denot). OpenLeaves g.S.Store g.H.Shelf.view g.H.Shelf.size
+          subst (λ (k : Held g.row.S.Denot). OpenLeaves g.S.Store g.H.Shelf
           c.args.store k c.args.shelf c.take_up_without.new.self.shelf) (sym c.close.ensures)
-          (opens_over g.S.Store g.H.Shelf.view g.H.Shelf.size c.args.store c.in-Ok.registry
+          (opens_over g.S.Store g.H.Shelf c.args.store c.in-Ok.registry
           c.args.shelf lawful only mid it.left (it.opened mid)
           c.take_up_without.new.self.registry c.take_up_without.new.self.shelf keeps));
       ready = search rules;
@@ -223,11 +223,11 @@ returns-in-Err-take_up_without-clause-unopened g c =
           → db ≡ stored g.S.Store c.args.store =
           λ db left. g.met.S.Store.settled c.args.store.store db is_open left in
           let lawful = g.met.H.Shelf.lawful c.args.shelf h in
-          subst (λ (k : Held g.row.S.Denot). LacksImage g.S.Store g.H.Shelf.view g.H.Shelf.size
+          subst (λ (k : Held g.row.S.Denot). LacksImage g.S.Store g.H.Shelf
           c.args.store c.args.shelf c.args.key.now c.args.provider k
           c.take_up_without.new.self.shelf q)
           (sym c.close-in-Err-take_up_without.ensures)
-          (lacking g.S.Store g.H.Shelf.view g.H.Shelf.size c.args.store c.in-Ok.registry
+          (lacking g.S.Store g.H.Shelf c.args.store c.in-Ok.registry
           c.args.shelf (it.opened mid) lawful only mid it.left c.args.key.now c.args.provider
           c.take_up_without.new.self.registry c.take_up_without.new.self.shelf q
           (c.in-Err-take_up_without.ensures.lacks h clean q (ap Err is))));

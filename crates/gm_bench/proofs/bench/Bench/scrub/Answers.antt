@@ -7,16 +7,15 @@ use Rattle.gm_bench.proofs.bench.Bench.scrub.Goals as goal
 
 pub returns-in-Ok-clause-scrubs : goal.returns-in-Ok-clause-scrubs
 returns-in-Ok-clause-scrubs g c h clean t s has are =
-    let size = g.H.Shelf.size in
-    let view = g.H.Shelf.view in
+    let j = g.H.Shelf in
     let shelf = shelf_of c.args.self.now in
     let here : g.H.Shelf.honest (shelf_of c.view.new.self) =
     subst g.H.Shelf.honest (sym c.in_ok-state.ensures.shelf) h in
-    subst (λ (x : Records). IsScrub x (size shelf) (view shelf).seen c.args.mirror
+    subst (λ (x : Records). IsScrub x (j.size shelf) (j.view shelf).seen c.args.mirror
     c.in-Ok.list.items)
     (c.in_ok-state.ensures.shows clean t s has are)
-    (subst (λ (x : g.row.H.Denot). IsScrub c.in_ok-state.state (size x) (view x).seen c.args.mirror
-    c.in-Ok.list.items)
+    (subst (λ (x : g.row.H.Denot). IsScrub c.in_ok-state.state (j.size x) (j.view x).seen
+    c.args.mirror c.in-Ok.list.items)
     c.in_ok-state.ensures.shelf (c.in-Ok.ensures.scrub here))
 
 pub returns-in-Ok-clause-looks : goal.returns-in-Ok-clause-looks

@@ -4,15 +4,15 @@ use Rattle.gm_bench.proofs.bench.Bench.settle.Goals as goal
 
 pub returns-in-Applied-clause-leaves : goal.returns-in-Applied-clause-leaves
 returns-in-Applied-clause-leaves g c h clean work is away u w at shelf =
-    subst (λ (k : g.row.H.Denot). LeavesOnly g.S.Store g.H.Shelf.view g.H.Shelf.size
+    subst (λ (k : g.row.H.Denot). LeavesOnly g.S.Store g.H.Shelf
     c.args.self.now.media.registry c.settle.new.self.registry c.args.self.now.media.shelf k away
-    u w) c.settle.ensures.shelf
+    u w) c.settle.ensures.settles.shelf
     (c.settle.ensures.leaves h clean away work.intents.items work.bytes.items u w at.at shelf)
 
 pub returns-in_err-settle-in-Applied-clause-leaves :
     goal.returns-in_err-settle-in-Applied-clause-leaves
 returns-in_err-settle-in-Applied-clause-leaves g c h clean work is away u w at shelf =
-    subst (λ (k : g.row.H.Denot). LeavesOnly g.S.Store g.H.Shelf.view g.H.Shelf.size
+    subst (λ (k : g.row.H.Denot). LeavesOnly g.S.Store g.H.Shelf
     c.args.self.now.media.registry c.settle.new.self.registry c.args.self.now.media.shelf k away
-    u w) c.settle.ensures.shelf
+    u w) c.settle.ensures.settles.shelf
     (c.settle.ensures.leaves h clean away work.intents.items work.bytes.items u w at.at shelf)

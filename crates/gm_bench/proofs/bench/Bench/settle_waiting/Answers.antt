@@ -8,7 +8,7 @@ use Rattle.gm_bench.proofs.bench.Bench.settle_waiting.Goals as goal
 
 pub returns-in-Ready-clause-does : goal.returns-in-Ready-clause-does
 returns-in-Ready-clause-does g c h clean away v u stands =
-    rest_stands g.S.Store g.H.Shelf.view g.H.Shelf.size c.args.self.now.progress
+    rest_stands g.S.Store g.H.Shelf c.args.self.now.progress
     c.args.self.now.media.registry c.args.self.now.media.shelf away v u
     (inl (sym c.phase.ensures ∙ c.in-Ready.is)) stands
 
@@ -16,15 +16,14 @@ pub returns-in-Ready-clause-leaves : goal.returns-in-Ready-clause-leaves
 returns-in-Ready-clause-leaves g c h clean away v u stands =
     let r = c.args.self.now.media.registry in
     let shelf = c.args.self.now.media.shelf in
-    let was = carried_so g.S.Store g.H.Shelf.view g.H.Shelf.size c.args.self.now.progress r shelf
-    away v u stands in
-    stands_only g.S.Store g.H.Shelf.view g.H.Shelf.size c.args.self.now.progress r shelf away v u
+    let was = carried_so g.S.Store g.H.Shelf c.args.self.now.progress r shelf away v u stands in
+    stands_only g.S.Store g.H.Shelf c.args.self.now.progress r shelf away v u
     stands (saved g.S.Store g.met.S.Store.settled r was.at.tables was.at.has).crash
     (g.met.H.Shelf.lawful shelf h)
 
 pub returns-in_default-clause-does : goal.returns-in_default-clause-does
 returns-in_default-clause-does g c h clean =
-    settles_to g.S.Store g.H.Shelf.view g.H.Shelf.size c.args.self.now.progress
+    settles_to g.S.Store g.H.Shelf c.args.self.now.progress
     c.args.self.now.media.registry c.settle.new.self.media.registry c.args.self.now.media.shelf
     c.settle.new.self.media.shelf c.settle.result c.settle.ensures.settles.shelf
     (λ is. c.in_default.not-Ready (c.phase.ensures ∙ ap phase_of is))
@@ -36,14 +35,13 @@ pub returns-in_default-clause-leaves : goal.returns-in_default-clause-leaves
 returns-in_default-clause-leaves g c h clean away v u stands =
     let r = c.args.self.now.media.registry in
     let shelf = c.args.self.now.media.shelf in
-    let was = carried_so g.S.Store g.H.Shelf.view g.H.Shelf.size c.args.self.now.progress r shelf
-    away v u stands in
-    settling_leaves g.S.Store g.H.Shelf.view g.H.Shelf.size c.args.self.now.progress
+    let was = carried_so g.S.Store g.H.Shelf c.args.self.now.progress r shelf away v u stands in
+    settling_leaves g.S.Store g.H.Shelf c.args.self.now.progress
     r c.settle.new.self.media.registry shelf c.settle.new.self.media.shelf away v u stands
     c.settle.ensures.settles.shelf
     (λ is. c.in_default.not-Ready (c.phase.ensures ∙ ap phase_of is))
     (λ is. ap (λ b. b.media.registry) (c.settle.ensures.closes.closed is).1)
     (c.settle.ensures.leaves h clean)
-    (stands_only g.S.Store g.H.Shelf.view g.H.Shelf.size c.args.self.now.progress r shelf away v u
+    (stands_only g.S.Store g.H.Shelf c.args.self.now.progress r shelf away v u
     stands (saved g.S.Store g.met.S.Store.settled r was.at.tables was.at.has).crash
     (g.met.H.Shelf.lawful shelf h))

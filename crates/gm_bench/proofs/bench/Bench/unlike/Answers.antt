@@ -8,17 +8,15 @@ use Rattle.gm_bench.proofs.bench.Bench.unlike.Goals as goal
 
 pub returns-in-Ok-clause-unlike : goal.returns-in-Ok-clause-unlike
 returns-in-Ok-clause-unlike g c h clean t s has are =
-    let size = g.H.Shelf.size in
-    let view = g.H.Shelf.view in
+    let j = g.H.Shelf in
     let shelf = shelf_of c.args.self.now in
     let here : g.H.Shelf.honest (shelf_of c.view.new.self) =
     subst g.H.Shelf.honest (sym c.in_ok-state.ensures.shelf) h in
-    subst (λ (x : Records). IsUnlike (is_about c.args.command.now) x (size shelf) (view shelf).seen
-    c.in-Ok.list.items)
+    subst (λ (x : Records). IsUnlike (is_about c.args.command.now) x (j.size shelf)
+    (j.view shelf).seen c.in-Ok.list.items)
     (c.in_ok-state.ensures.shows clean t s has are)
     (subst (λ (x : g.row.H.Denot). IsUnlike (is_about c.args.command.now) c.in_ok-state.state
-    (size x) (view x).seen
-    c.in-Ok.list.items)
+    (j.size x) (j.view x).seen c.in-Ok.list.items)
     c.in_ok-state.ensures.shelf (c.in-Ok.ensures.unlike here))
 
 pub returns-in-Ok-clause-looks : goal.returns-in-Ok-clause-looks

@@ -5,14 +5,14 @@ use Rattle.gm_bench.proofs.media.Media.accept.Goals as goal
 
 pub returns-then-not-is_key-clause-leaves : goal.returns-then-not-is_key-clause-leaves
 returns-then-not-is_key-clause-leaves g c h clean away ts bytes v u at waits =
-    unstepped_same g.S.Store g.H.Shelf.view g.H.Shelf.size c.args.self.now.registry
+    unstepped_same g.S.Store g.H.Shelf c.args.self.now.registry
     c.args.self.now.shelf away ts bytes v u at (g.met.H.Shelf.lawful c.args.self.now.shelf h)
     c.args.key.now c.args.command.now
     (saved g.S.Store g.met.S.Store.settled c.args.self.now.registry at.tables at.has).crash
 
 pub returns-in-Err-clause-leaves : goal.returns-in-Err-clause-leaves
 returns-in-Err-clause-leaves g c h clean away ts bytes v u at waits =
-    unstepped_same g.S.Store g.H.Shelf.view g.H.Shelf.size c.args.self.now.registry
+    unstepped_same g.S.Store g.H.Shelf c.args.self.now.registry
     c.args.self.now.shelf away ts bytes v u at (g.met.H.Shelf.lawful c.args.self.now.shelf h)
     c.args.key.now c.args.command.now
     (saved g.S.Store g.met.S.Store.settled c.args.self.now.registry at.tables at.has).crash

@@ -16,33 +16,37 @@ use Rattle.gm_bench.proofs.media.Media.answer.Goals as goal
 
 pub returns-then-eq-clause-leaves : goal.returns-then-eq-clause-leaves
 returns-then-eq-clause-leaves g c h clean call away ts bytes v u at waits =
-    unstepped g.S.Store g.H.Shelf.view g.H.Shelf.size c.args.self.now.registry c.args.self.now.shelf
+    let j = g.H.Shelf in
+    unstepped g.S.Store j c.args.self.now.registry c.args.self.now.shelf
     c.args.self.now.shelf away ts bytes v u at (g.met.H.Shelf.lawful c.args.self.now.shelf h)
-    (quiet_itself (g.H.Shelf.view c.args.self.now.shelf)) refl
+    (quiet_itself (j.view c.args.self.now.shelf)) refl
     c.reply_of.new.self c.args.key.now c.args.command.now
     (saved g.S.Store g.met.S.Store.settled c.args.self.now.registry at.tables at.has).crash
     clean (c.reply_of.ensures.reads.left at.tables at.has)
 
 pub returns-in-Ok-Some-clause-leaves : goal.returns-in-Ok-Some-clause-leaves
 returns-in-Ok-Some-clause-leaves g c h clean call away ts bytes v u at waits =
-    unstepped g.S.Store g.H.Shelf.view g.H.Shelf.size c.args.self.now.registry c.args.self.now.shelf
+    let j = g.H.Shelf in
+    unstepped g.S.Store j c.args.self.now.registry c.args.self.now.shelf
     c.args.self.now.shelf away ts bytes v u at (g.met.H.Shelf.lawful c.args.self.now.shelf h)
-    (quiet_itself (g.H.Shelf.view c.args.self.now.shelf)) refl
+    (quiet_itself (j.view c.args.self.now.shelf)) refl
     c.reply_of.new.self c.args.key.now c.args.command.now
     (saved g.S.Store g.met.S.Store.settled c.args.self.now.registry at.tables at.has).crash
     clean (c.reply_of.ensures.reads.left at.tables at.has)
 
 pub returns-clause-leaves : goal.returns-clause-leaves
 returns-clause-leaves g c h clean call away ts bytes v u at waits =
-    unstepped g.S.Store g.H.Shelf.view g.H.Shelf.size c.args.self.now.registry c.args.self.now.shelf
+    let j = g.H.Shelf in
+    unstepped g.S.Store j c.args.self.now.registry c.args.self.now.shelf
     c.args.self.now.shelf away ts bytes v u at (g.met.H.Shelf.lawful c.args.self.now.shelf h)
-    (quiet_itself (g.H.Shelf.view c.args.self.now.shelf)) refl
+    (quiet_itself (j.view c.args.self.now.shelf)) refl
     c.reply_of.new.self c.args.key.now c.args.command.now
     (saved g.S.Store g.met.S.Store.settled c.args.self.now.registry at.tables at.has).crash
     clean (c.reply_of.ensures.reads.left at.tables at.has)
 
 pub returns-in-Ok-None-clause-leaves : goal.returns-in-Ok-None-clause-leaves
 returns-in-Ok-None-clause-leaves g c h clean call away ts bytes v u at waits =
+    let j = g.H.Shelf in
     let asked : DiskKept g.S.Store c.reply_of.new.self =
     omega (arith, clean, c.decide.ensures.accepts.clean) in
     let lawful = g.met.H.Shelf.lawful c.args.self.now.shelf h in
@@ -51,12 +55,12 @@ returns-in-Ok-None-clause-leaves g c h clean call away ts bytes v u at waits =
     subst (λ o. MatchOption o (IsFree at.tables c.args.key.now)
     (λ it. IsKept at.tables c.args.key.now it.0 (string_bytes it.1) it.2))
     c.in-Ok-None.field-0-is f.0 in
-    let quiet = quiet_itself (g.H.Shelf.view c.args.self.now.shelf) in
-    let at1 = still g.S.Store g.H.Shelf.view g.H.Shelf.size c.args.self.now.registry
+    let quiet = quiet_itself (j.view c.args.self.now.shelf) in
+    let at1 = still g.S.Store j c.args.self.now.registry
     c.args.self.now.shelf c.args.self.now.shelf away ts bytes v u at lawful quiet refl
     c.reply_of.new.self
     f.1.tables in
-    then_step g.S.Store g.H.Shelf.view g.H.Shelf.size c.args.self.now.registry c.args.self.now.shelf
+    then_step g.S.Store j c.args.self.now.registry c.args.self.now.shelf
     c.args.self.now.shelf away ts bytes v u at lawful quiet refl c.reply_of.new.self
     c.decide.new.self.registry c.decide.new.self.shelf c.args.key.now c.args.command.now
     (c.decide.ensures.accepts.only.reads h).quiet
@@ -65,6 +69,7 @@ returns-in-Ok-None-clause-leaves g c h clean call away ts bytes v u at waits =
 
 pub returns-in-Ok-None-clause-done : goal.returns-in-Ok-None-clause-done
 returns-in-Ok-None-clause-done g c h clean =
+    let j = g.H.Shelf in
     ok_then _ _ (λ a answered call away ts bytes v u at waits. (
     let asked : DiskKept g.S.Store c.reply_of.new.self =
     omega (arith, clean, c.decide.ensures.accepts.clean) in
@@ -74,8 +79,8 @@ returns-in-Ok-None-clause-done g c h clean =
     subst (λ o. MatchOption o (IsFree at.tables c.args.key.now)
     (λ it. IsKept at.tables c.args.key.now it.0 (string_bytes it.1) it.2))
     c.in-Ok-None.field-0-is f.0 in
-    let quiet = quiet_itself (g.H.Shelf.view c.args.self.now.shelf) in
-    let at1 = still g.S.Store g.H.Shelf.view g.H.Shelf.size c.args.self.now.registry
+    let quiet = quiet_itself (j.view c.args.self.now.shelf) in
+    let at1 = still g.S.Store j c.args.self.now.registry
     c.args.self.now.shelf c.args.self.now.shelf away ts bytes v u at lawful quiet refl
     c.reply_of.new.self
     f.1.tables in
@@ -84,8 +89,9 @@ returns-in-Ok-None-clause-done g c h clean =
 
 pub returns-then-eq-clause-done : goal.returns-then-eq-clause-done
 returns-then-eq-clause-done g c h clean call away ts bytes v u at waits =
+    let j = g.H.Shelf in
     let lawful = g.met.H.Shelf.lawful c.args.self.now.shelf h in
-    let l = seen_leads g.S.Store g.H.Shelf.view g.H.Shelf.size c.args.self.now.registry
+    let l = seen_leads g.S.Store j c.args.self.now.registry
     c.args.self.now.shelf away ts bytes v u at lawful in
     let f = c.in-Ok-Some.ensures.found clean at.tables at.has in
     let row : IsKept at.tables c.args.key.now c.in-Ok-Some.number
@@ -95,9 +101,9 @@ returns-then-eq-clause-done g c h clean call away ts bytes v u at waits =
     c.in-Ok-Some.field-0-is f.0 in
     let a = kept_answer u at.tables l.sound l.records c.args.key.now c.args.command.now
     c.in-Ok-Some.number (string_bytes c.in-Ok-Some.kept) c.in-Ok-Some.reply row in
-    let here = still g.S.Store g.H.Shelf.view g.H.Shelf.size c.args.self.now.registry
+    let here = still g.S.Store j c.args.self.now.registry
     c.args.self.now.shelf c.args.self.now.shelf away ts bytes v u at lawful
-    (quiet_itself (g.H.Shelf.view c.args.self.now.shelf)) refl c.reply_of.new.self f.1.tables in
+    (quiet_itself (j.view c.args.self.now.shelf)) refl c.reply_of.new.self f.1.tables in
     let same : string_bytes c.in-Ok-Some.kept ≡ c.args.words.now =
     sym c.as_str.ensures.value ∙ same_is c.as_str.result.now c.args.words.now
     (sym c.eq.ensures ∙ c.if-eq.true) in (
@@ -112,8 +118,9 @@ returns-then-eq-clause-done g c h clean call away ts bytes v u at waits =
 
 pub returns-in-Ok-Some-clause-done : goal.returns-in-Ok-Some-clause-done
 returns-in-Ok-Some-clause-done g c h clean call away ts bytes v u at waits =
+    let j = g.H.Shelf in
     let lawful = g.met.H.Shelf.lawful c.args.self.now.shelf h in
-    let l = seen_leads g.S.Store g.H.Shelf.view g.H.Shelf.size c.args.self.now.registry
+    let l = seen_leads g.S.Store j c.args.self.now.registry
     c.args.self.now.shelf away ts bytes v u at lawful in
     let f = c.in-Ok-Some.ensures.found clean at.tables at.has in
     let row : IsKept at.tables c.args.key.now c.in-Ok-Some.number
@@ -123,9 +130,9 @@ returns-in-Ok-Some-clause-done g c h clean call away ts bytes v u at waits =
     c.in-Ok-Some.field-0-is f.0 in
     let a = kept_answer u at.tables l.sound l.records c.args.key.now c.args.command.now
     c.in-Ok-Some.number (string_bytes c.in-Ok-Some.kept) c.in-Ok-Some.reply row in
-    let here = still g.S.Store g.H.Shelf.view g.H.Shelf.size c.args.self.now.registry
+    let here = still g.S.Store j c.args.self.now.registry
     c.args.self.now.shelf c.args.self.now.shelf away ts bytes v u at lawful
-    (quiet_itself (g.H.Shelf.view c.args.self.now.shelf)) refl c.reply_of.new.self f.1.tables in
+    (quiet_itself (j.view c.args.self.now.shelf)) refl c.reply_of.new.self f.1.tables in
     let other : string_bytes c.in-Ok-Some.kept ≢ c.args.words.now =
     λ e. true≢false
     (sym (same_from c.as_str.result.now c.args.words.now (c.as_str.ensures.value ∙ e))

@@ -7,21 +7,21 @@ use Rattle.gm_bench.proofs.media.Media.apply.Goals as goal
 
 pub returns-in-Ok-clause-moments : goal.returns-in-Ok-clause-moments
 returns-in-Ok-clause-moments g c h away u w at cover =
-    moments g.S.Store g.H.Shelf.view g.H.Shelf.size c.args.self.now.registry c.args.self.now.shelf
+    moments g.S.Store g.H.Shelf c.args.self.now.registry c.args.self.now.shelf
     c.apply.new.shelf away c.args.intents.now c.args.bytes.now u w at
     (g.met.H.Shelf.lawful c.args.self.now.shelf h) c.args.part.now cover
     (c.apply.ensures.moments h)
 
 pub returns-in-Err-clause-moments : goal.returns-in-Err-clause-moments
 returns-in-Err-clause-moments g c h away u w at cover =
-    moments g.S.Store g.H.Shelf.view g.H.Shelf.size c.args.self.now.registry c.args.self.now.shelf
+    moments g.S.Store g.H.Shelf c.args.self.now.registry c.args.self.now.shelf
     c.apply.new.shelf away c.args.intents.now c.args.bytes.now u w at
     (g.met.H.Shelf.lawful c.args.self.now.shelf h) c.args.part.now cover
     (c.apply.ensures.moments h)
 
 pub returns-in-Ok-clause-leaves : goal.returns-in-Ok-clause-leaves
 returns-in-Ok-clause-leaves g c h away u w at cover =
-    leaves g.S.Store g.H.Shelf.view g.H.Shelf.size c.args.self.now.registry c.args.self.now.shelf
+    leaves g.S.Store g.H.Shelf c.args.self.now.registry c.args.self.now.shelf
     c.apply.new.shelf away c.args.intents.now c.args.bytes.now u w at
     (g.met.H.Shelf.lawful c.args.self.now.shelf h) c.args.part.now cover
     (c.apply.ensures.moments h)
@@ -30,7 +30,7 @@ returns-in-Ok-clause-leaves g c h away u w at cover =
 
 pub returns-in-Err-clause-leaves : goal.returns-in-Err-clause-leaves
 returns-in-Err-clause-leaves g c h away u w at cover =
-    leaves g.S.Store g.H.Shelf.view g.H.Shelf.size c.args.self.now.registry c.args.self.now.shelf
+    leaves g.S.Store g.H.Shelf c.args.self.now.registry c.args.self.now.shelf
     c.apply.new.shelf away c.args.intents.now c.args.bytes.now u w at
     (g.met.H.Shelf.lawful c.args.self.now.shelf h) c.args.part.now cover
     (c.apply.ensures.moments h)
@@ -41,11 +41,11 @@ pub returns-in-Ok-clause-done : goal.returns-in-Ok-clause-done
 returns-in-Ok-clause-done g c h away u w at cover =
     let lawful = g.met.H.Shelf.lawful c.args.self.now.shelf h in
     let after = g.met.H.Shelf.lawful c.apply.new.shelf (c.apply.ensures.keeps.honest h) in (
-      carried g.S.Store g.H.Shelf.view g.H.Shelf.size c.args.self.now.registry c.args.self.now.shelf
+      carried g.S.Store g.H.Shelf c.args.self.now.registry c.args.self.now.shelf
           c.apply.new.shelf away c.args.intents.now c.args.bytes.now u w at lawful c.args.part.now
           cover
           (c.apply.ensures.moments h) after c.apply.ensures.keeps.size,
-      ended g.S.Store g.H.Shelf.view g.H.Shelf.size c.args.self.now.registry c.args.self.now.shelf
+      ended g.S.Store g.H.Shelf c.args.self.now.registry c.args.self.now.shelf
           c.apply.new.shelf away c.args.intents.now c.args.bytes.now u w at lawful c.args.part.now
           cover
           (c.apply.ensures.moments h) after c.apply.ensures.keeps.size (c.in-Ok.ensures.done h),
@@ -56,8 +56,8 @@ returns-in-Err-clause-disk g c hand is =
     let fault : c.of_shelf.result ≡ Disk = cc in
     let size = g.H.Shelf.size c.args.self.now.shelf in
     of_disk c.in-Err.fault _ (sym c.of_shelf.ensures.value ∙ fault)
-    (λ e. let it = c.in-Err.ensures.absent (ap Err e) in
+    (λ e. let it = c.in-Err.ensures.fails.absent (ap Err e) in
     not_lacking_provider size it.0 (hand it.0 it.1) it.2)
-    (λ e. let it = c.in-Err.ensures.range (ap Err e) in
+    (λ e. let it = c.in-Err.ensures.fails.range (ap Err e) in
     not_lacking_sector size it.0 (hand it.0 it.1) it.2)
-    (λ e. c.in-Err.ensures.device (ap Err e))
+    (λ e. c.in-Err.ensures.fails.device (ap Err e))

@@ -8,7 +8,7 @@ use Rattle.gm_bench.proofs.Present.{at_hand}
 
 pub returns-in-Some-clause-leaves : goal.returns-in-Some-clause-leaves
 returns-in-Some-clause-leaves g c h clean away u w at same =
-    still_only g.S.Store g.H.Shelf.view g.H.Shelf.size c.args.self.now.registry
+    still_only g.S.Store g.H.Shelf c.args.self.now.registry
     c.args.self.now.shelf away at.tables c.args.intents.now c.args.bytes.now u w
     (saved g.S.Store g.met.S.Store.settled c.args.self.now.registry at.tables at.has).crash
     (g.met.H.Shelf.lawful c.args.self.now.shelf h) at.leads
@@ -26,23 +26,23 @@ returns-in-None-clause-disk g c t of is =
 pub returns-in-None-clause-leaves : goal.returns-in-None-clause-leaves
 returns-in-None-clause-leaves g c h clean away u w at same =
     let lawful = g.met.H.Shelf.lawful c.args.self.now.shelf h in
-    let here = ready g.S.Store g.H.Shelf.view g.H.Shelf.size c.args.self.now.registry
+    let here = ready g.S.Store g.H.Shelf c.args.self.now.registry
     c.args.self.now.shelf away c.args.intents.now c.args.bytes.now u w at lawful c.args.state.now
     same
     (sym c.first_absent.ensures ∙ c.in-None.is) in
     c.finish.ensures.leaves h clean away u w here
-    (covered g.S.Store g.H.Shelf.view g.H.Shelf.size c.args.self.now.registry
+    (covered g.S.Store g.H.Shelf c.args.self.now.registry
     c.args.self.now.shelf away c.args.intents.now c.args.bytes.now u w at lawful c.args.state.now
     same)
 
 pub returns-in-None-clause-done : goal.returns-in-None-clause-done
 returns-in-None-clause-done g c h clean = on_ok_weaker c.finish.result (λ done away u w at same. (
     let lawful = g.met.H.Shelf.lawful c.args.self.now.shelf h in
-    done away u w (ready g.S.Store g.H.Shelf.view g.H.Shelf.size c.args.self.now.registry
+    done away u w (ready g.S.Store g.H.Shelf c.args.self.now.registry
     c.args.self.now.shelf away c.args.intents.now c.args.bytes.now u w at lawful c.args.state.now
     same
     (sym c.first_absent.ensures ∙ c.in-None.is))
-    (covered g.S.Store g.H.Shelf.view g.H.Shelf.size c.args.self.now.registry
+    (covered g.S.Store g.H.Shelf c.args.self.now.registry
     c.args.self.now.shelf away c.args.intents.now c.args.bytes.now u w at lawful c.args.state.now
     same)))
     (c.finish.ensures.done h clean)
@@ -51,9 +51,9 @@ pub returns-in-None-clause-moments : goal.returns-in-None-clause-moments
 returns-in-None-clause-moments g c h away u w at same =
     let lawful = g.met.H.Shelf.lawful c.args.self.now.shelf h in
     c.finish.ensures.moments h away u w
-    (ready g.S.Store g.H.Shelf.view g.H.Shelf.size c.args.self.now.registry
+    (ready g.S.Store g.H.Shelf c.args.self.now.registry
     c.args.self.now.shelf away c.args.intents.now c.args.bytes.now u w at lawful c.args.state.now
     same
     (sym c.first_absent.ensures ∙ c.in-None.is))
-    (covered g.S.Store g.H.Shelf.view g.H.Shelf.size c.args.self.now.registry c.args.self.now.shelf
+    (covered g.S.Store g.H.Shelf c.args.self.now.registry c.args.self.now.shelf
     away c.args.intents.now c.args.bytes.now u w at lawful c.args.state.now same)

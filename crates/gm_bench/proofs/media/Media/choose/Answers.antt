@@ -19,8 +19,7 @@ use Rattle.gm_bench.proofs.media.Media.choose.Goals as goal
 
 pub returns-in-Ok-clause-leaves : goal.returns-in-Ok-clause-leaves
 returns-in-Ok-clause-leaves g c h clean away ts bytes v u words at waits can =
-    let view = g.H.Shelf.view in
-    let size = g.H.Shelf.size in
+    let j = g.H.Shelf in
     let lawful = g.met.H.Shelf.lawful c.args.self.now.shelf h in
     let only = (saved g.S.Store g.met.S.Store.settled c.args.self.now.registry at.tables
     at.has).crash in
@@ -30,7 +29,7 @@ returns-in-Ok-clause-leaves g c h clean away ts bytes v u words at waits can =
     let d = c.in_ok-planned.ensures.decides h asked away ts bytes v u at in
     let planned : IsPlanned u c.args.command.now c.in-Ok.planned =
     subst (λ r. IsDecided u c.args.command.now r) c.in-Ok.is d.0 in
-    let at1 = still g.S.Store view size c.args.self.now.registry c.args.self.now.shelf
+    let at1 = still g.S.Store j c.args.self.now.registry c.args.self.now.shelf
     c.ask.new.self.shelf away ts bytes v u at lawful quiet c.ask.ensures.asks.only.keeps.size
     c.ask.new.self.registry
     d.1 in
@@ -38,11 +37,11 @@ returns-in-Ok-clause-leaves g c h clean away ts bytes v u words at waits can =
     bytes
     c.args.command.now v u
     words at1 waits planned can in
-    subst (λ (k : g.row.H.Denot). LeavesStep g.S.Store view size c.args.self.now.registry
+    subst (λ (k : g.row.H.Denot). LeavesStep g.S.Store j c.args.self.now.registry
     c.commit.new.self.registry c.args.self.now.shelf k away v u c.args.key.now
     c.args.command.now)
     (sym c.commit.ensures.alone.shelf)
-    (then_step g.S.Store view size c.args.self.now.registry c.args.self.now.shelf
+    (then_step g.S.Store j c.args.self.now.registry c.args.self.now.shelf
     c.ask.new.self.shelf away ts bytes v u at lawful quiet c.ask.ensures.asks.only.keeps.size
     c.ask.new.self.registry
     c.commit.new.self.registry c.ask.new.self.shelf c.args.key.now c.args.command.now quiet only
@@ -51,8 +50,7 @@ returns-in-Ok-clause-leaves g c h clean away ts bytes v u words at waits can =
 pub returns-in-Ok-clause-done : goal.returns-in-Ok-clause-done
 returns-in-Ok-clause-done g c h clean = ok_then _ _ (λ a told away ts bytes v u words at waits can.
     (
-    let view = g.H.Shelf.view in
-    let size = g.H.Shelf.size in
+    let j = g.H.Shelf in
     let lawful = g.met.H.Shelf.lawful c.args.self.now.shelf h in
     let quiet = (c.ask.ensures.asks.only.reads h).quiet in
     let asked : DiskKept g.S.Store c.ask.new.self.registry =
@@ -60,18 +58,18 @@ returns-in-Ok-clause-done g c h clean = ok_then _ _ (λ a told away ts bytes v u
     let d = c.in_ok-planned.ensures.decides h asked away ts bytes v u at in
     let planned : IsPlanned u c.args.command.now c.in-Ok.planned =
     subst (λ r. IsDecided u c.args.command.now r) c.in-Ok.is d.0 in
-    let at1 = still g.S.Store view size c.args.self.now.registry c.args.self.now.shelf
+    let at1 = still g.S.Store j c.args.self.now.registry c.args.self.now.shelf
     c.ask.new.self.shelf away ts bytes v u at lawful quiet c.ask.ensures.asks.only.keeps.size
     c.ask.new.self.registry
     d.1 in
-    subst (λ (k : g.row.H.Denot). IsAnswered g.S.Store view size c.commit.new.self.registry k away
+    subst (λ (k : g.row.H.Denot). IsAnswered g.S.Store j c.commit.new.self.registry k away
     ts bytes v u c.args.key.now c.args.command.now a) (sym c.commit.ensures.alone.shelf)
     (told away ts bytes c.args.command.now v u words at1 waits planned can)))
     c.commit.result (c.commit.ensures.done (c.ask.ensures.asks.only.keeps.honest h) clean)
 
 pub returns-in-Err-clause-leaves : goal.returns-in-Err-clause-leaves
 returns-in-Err-clause-leaves g c h clean away ts bytes v u words at waits can =
-    unstepped g.S.Store g.H.Shelf.view g.H.Shelf.size c.args.self.now.registry c.args.self.now.shelf
+    unstepped g.S.Store g.H.Shelf c.args.self.now.registry c.args.self.now.shelf
     c.ask.new.self.shelf away ts bytes v u at (g.met.H.Shelf.lawful c.args.self.now.shelf h)
     (c.ask.ensures.asks.only.reads h).quiet c.ask.ensures.asks.only.keeps.size
     c.ask.new.self.registry c.args.key.now c.args.command.now
@@ -82,11 +80,11 @@ pub returns-in-Err-clause-done : goal.returns-in-Err-clause-done
 returns-in-Err-clause-done g c h clean away ts bytes v u words at waits can =
     let lawful = g.met.H.Shelf.lawful c.args.self.now.shelf h in
     let d = c.in_ok-planned.ensures.decides h clean away ts bytes v u at in
-    let l = seen_leads g.S.Store g.H.Shelf.view g.H.Shelf.size c.args.self.now.registry
+    let l = seen_leads g.S.Store g.H.Shelf c.args.self.now.registry
     c.args.self.now.shelf away ts bytes v u at lawful in
     let least_is : IsLeast u.state (seen_of u) c.args.command.now c.in-Err.refusal =
     subst (λ r. IsDecided u c.args.command.now r) c.in-Err.is d.0 in
-    let at1 = still g.S.Store g.H.Shelf.view g.H.Shelf.size c.args.self.now.registry
+    let at1 = still g.S.Store g.H.Shelf c.args.self.now.registry
     c.args.self.now.shelf c.ask.new.self.shelf away ts bytes v u at lawful
     (c.ask.ensures.asks.only.reads h).quiet c.ask.ensures.asks.only.keeps.size
     c.ask.new.self.registry d.1 in (
@@ -97,7 +95,7 @@ returns-in-Err-clause-done g c h clean away ts bytes v u words at waits can =
 
 pub returns-in_err-planned-clause-leaves : goal.returns-in_err-planned-clause-leaves
 returns-in_err-planned-clause-leaves g c h clean away ts bytes v u words at waits can =
-    unstepped g.S.Store g.H.Shelf.view g.H.Shelf.size c.args.self.now.registry c.args.self.now.shelf
+    unstepped g.S.Store g.H.Shelf c.args.self.now.registry c.args.self.now.shelf
     c.ask.new.self.shelf away ts bytes v u at (g.met.H.Shelf.lawful c.args.self.now.shelf h)
     (c.ask.ensures.asks.only.reads h).quiet c.ask.ensures.asks.only.keeps.size
     c.ask.new.self.registry c.args.key.now c.args.command.now

@@ -14,28 +14,28 @@ use Rattle.gm_bench.proofs.media.Media.commit.Goals as goal
 
 pub returns-in-Ok-clause-leaves : goal.returns-in-Ok-clause-leaves
 returns-in-Ok-clause-leaves g c h clean away ts bytes cmd v u words at waits planned can =
-    commit_leaves g.S.Store g.H.Shelf.view g.H.Shelf.size c.args.self.now.registry
+    commit_leaves g.S.Store g.H.Shelf c.args.self.now.registry
     c.write.new.self.registry c.args.self.now.shelf away ts bytes v u c.args.key.now cmd
     c.args.planned c.args.words.now words
     (g.met.H.Shelf.lawful c.args.self.now.shelf h) at planned can
     (saved g.S.Store g.met.S.Store.settled c.args.self.now.registry at.tables at.has).crash
     clean (subst (λ (t : Tables). MayLeave g.S.Store c.args.self.now.registry
     c.write.new.self.registry (with_accepted c.args.planned.change c.args.key.now
-    c.args.words.now t)) (left_settled g.S.Store g.H.Shelf.view g.H.Shelf.size
+    c.args.words.now t)) (left_settled g.S.Store g.H.Shelf
     c.args.self.now.registry c.args.self.now.shelf away ts bytes v u at
     (g.met.H.Shelf.lawful c.args.self.now.shelf h) c.args.waiting waits)
     (c.write.ensures.writes.left at.tables at.has))
 
 pub returns-in-Err-clause-leaves : goal.returns-in-Err-clause-leaves
 returns-in-Err-clause-leaves g c h clean away ts bytes cmd v u words at waits planned can =
-    commit_leaves g.S.Store g.H.Shelf.view g.H.Shelf.size c.args.self.now.registry
+    commit_leaves g.S.Store g.H.Shelf c.args.self.now.registry
     c.write.new.self.registry c.args.self.now.shelf away ts bytes v u c.args.key.now cmd
     c.args.planned c.args.words.now words
     (g.met.H.Shelf.lawful c.args.self.now.shelf h) at planned can
     (saved g.S.Store g.met.S.Store.settled c.args.self.now.registry at.tables at.has).crash
     clean (subst (λ (t : Tables). MayLeave g.S.Store c.args.self.now.registry
     c.write.new.self.registry (with_accepted c.args.planned.change c.args.key.now
-    c.args.words.now t)) (left_settled g.S.Store g.H.Shelf.view g.H.Shelf.size
+    c.args.words.now t)) (left_settled g.S.Store g.H.Shelf
     c.args.self.now.registry c.args.self.now.shelf away ts bytes v u at
     (g.met.H.Shelf.lawful c.args.self.now.shelf h) c.args.waiting waits)
     (c.write.ensures.writes.left at.tables at.has))
@@ -45,10 +45,10 @@ returns-in-Ok-clause-done g c h clean away ts bytes cmd v u words at waits plann
     let number = c.in-Ok.ensures.accepts.number clean at.tables at.has in
     let saved_now = subst (λ (t : Tables). HasSaved g.S.Store c.write.new.self.registry
     (with_accepted c.args.planned.change c.args.key.now c.args.words.now t))
-    (left_settled g.S.Store g.H.Shelf.view g.H.Shelf.size c.args.self.now.registry
+    (left_settled g.S.Store g.H.Shelf c.args.self.now.registry
     c.args.self.now.shelf away ts bytes v u at (g.met.H.Shelf.lawful c.args.self.now.shelf h)
     c.args.waiting waits) (c.in-Ok.ensures.writes.done clean at.tables at.has) in
-    commit_done g.S.Store g.H.Shelf.view g.H.Shelf.size c.args.self.now.registry
+    commit_done g.S.Store g.H.Shelf c.args.self.now.registry
     c.write.new.self.registry c.args.self.now.shelf away ts bytes v u c.args.key.now cmd
     c.args.planned c.args.words.now words
     (g.met.H.Shelf.lawful c.args.self.now.shelf h) at planned can c.in-Ok.number c.reply.result

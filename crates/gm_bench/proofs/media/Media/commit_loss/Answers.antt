@@ -18,7 +18,7 @@ returns-in-Ok-clause-leaves g c h clean p away ts bytes u w was =
     let at = was.found in
     let is = same_behind c.args.loss.now.change c.args.key.now (settled at.tables)
     c.deref.ensures.value c.deref-2.ensures.value c.as_str-words.ensures.value in
-    commits g.S.Store g.H.Shelf.view g.H.Shelf.size c.args.self.now.registry
+    commits g.S.Store g.H.Shelf c.args.self.now.registry
     c.accept_instead.new.self c.args.self.now.shelf away ts bytes u w
     (g.met.H.Shelf.lawful c.args.self.now.shelf h) at c.args.key.now p c.args.loss.now was.judged
     (saved g.S.Store g.met.S.Store.settled c.args.self.now.registry at.tables at.has).crash clean
@@ -30,7 +30,7 @@ returns-in-Err-clause-leaves g c h clean p away ts bytes u w was =
     let at = was.found in
     let is = same_behind c.args.loss.now.change c.args.key.now (settled at.tables)
     c.deref.ensures.value c.deref-2.ensures.value c.as_str-words.ensures.value in
-    commits g.S.Store g.H.Shelf.view g.H.Shelf.size c.args.self.now.registry
+    commits g.S.Store g.H.Shelf c.args.self.now.registry
     c.accept_instead.new.self c.args.self.now.shelf away ts bytes u w
     (g.met.H.Shelf.lawful c.args.self.now.shelf h) at c.args.key.now p c.args.loss.now was.judged
     (saved g.S.Store g.met.S.Store.settled c.args.self.now.registry at.tables at.has).crash clean
@@ -42,7 +42,7 @@ returns-in-Ok-clause-done g c h clean p away ts bytes u w was =
     let at = was.found in
     let is = same_behind c.args.loss.now.change c.args.key.now (settled at.tables)
     c.deref.ensures.value c.deref-2.ensures.value c.as_str-words.ensures.value in
-    lost g.S.Store g.H.Shelf.view g.H.Shelf.size c.args.self.now.registry
+    lost g.S.Store g.H.Shelf c.args.self.now.registry
     c.accept_instead.new.self c.args.self.now.shelf away ts bytes u w
     (g.met.H.Shelf.lawful c.args.self.now.shelf h) at c.args.key.now p c.args.loss.now was.judged
     (subst (λ (t : Tables). HasTables g.S.Store c.accept_instead.new.self t) is

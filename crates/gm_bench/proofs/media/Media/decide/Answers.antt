@@ -17,18 +17,20 @@ use Rattle.gm_bench.proofs.media.Media.decide.Goals as goal
 
 pub returns-then-branch-clause-leaves : goal.returns-then-branch-clause-leaves
 returns-then-branch-clause-leaves g c h clean away ts bytes v u words key_ok fits at waits free =
-    unstepped g.S.Store g.H.Shelf.view g.H.Shelf.size c.args.self.now.registry c.args.self.now.shelf
+    let j = g.H.Shelf in
+    unstepped g.S.Store j c.args.self.now.registry c.args.self.now.shelf
     c.is_full.new.self.shelf away ts bytes v u at (g.met.H.Shelf.lawful c.args.self.now.shelf h)
-    (quiet_same g.H.Shelf.view c.args.self.now.shelf c.is_full.new.self.shelf
-    c.is_full.ensures.shelf) (ap g.H.Shelf.size c.is_full.ensures.shelf)
+    (quiet_same j c.args.self.now.shelf c.is_full.new.self.shelf
+    c.is_full.ensures.shelf) (ap j.size c.is_full.ensures.shelf)
     c.is_full.new.self.registry c.args.key.now c.args.command.now
     (saved g.S.Store g.met.S.Store.settled c.args.self.now.registry at.tables at.has).crash
     clean (c.is_full.ensures.reads.left at.tables at.has)
 
 pub returns-then-branch-clause-done : goal.returns-then-branch-clause-done
 returns-then-branch-clause-done g c h clean away ts bytes v u words key_ok fits at waits free =
+    let j = g.H.Shelf in
     let lawful = g.met.H.Shelf.lawful c.args.self.now.shelf h in
-    let l = seen_leads g.S.Store g.H.Shelf.view g.H.Shelf.size c.args.self.now.registry
+    let l = seen_leads g.S.Store j c.args.self.now.registry
     c.args.self.now.shelf away ts bytes v u at lawful in
     let no_key = free_key u at.tables l.sound l.records c.args.key.now c.args.command.now free in
     let told = c.in_ok-is_full.ensures.told clean at.tables at.has in
@@ -37,19 +39,18 @@ returns-then-branch-clause-done g c h clean away ts bytes v u words key_ok fits 
     told.0 c.if-branch.true in (
       too_many u at.tables l.sound l.records c.args.key.now c.args.command.now key_ok no_key
           (omega (arith, many, much)),
-      still g.S.Store g.H.Shelf.view g.H.Shelf.size c.args.self.now.registry c.args.self.now.shelf
+      still g.S.Store j c.args.self.now.registry c.args.self.now.shelf
           c.is_full.new.self.shelf away ts bytes v u at lawful
-          (quiet_same g.H.Shelf.view c.args.self.now.shelf c.is_full.new.self.shelf
-          c.is_full.ensures.shelf) (ap g.H.Shelf.size c.is_full.ensures.shelf)
+          (quiet_same j c.args.self.now.shelf c.is_full.new.self.shelf
+          c.is_full.ensures.shelf) (ap j.size c.is_full.ensures.shelf)
           c.is_full.new.self.registry told.1,
     )
 
 pub returns-clause-leaves : goal.returns-clause-leaves
 returns-clause-leaves g c h clean away ts bytes v u words key_ok fits at waits free =
-    let view = g.H.Shelf.view in
-    let size = g.H.Shelf.size in
+    let j = g.H.Shelf in
     let lawful = g.met.H.Shelf.lawful c.args.self.now.shelf h in
-    let l = seen_leads g.S.Store g.H.Shelf.view g.H.Shelf.size c.args.self.now.registry
+    let l = seen_leads g.S.Store j c.args.self.now.registry
     c.args.self.now.shelf away ts bytes v u at lawful in
     let no_key = free_key u at.tables l.sound l.records c.args.key.now c.args.command.now free in
     let counted : DiskKept g.S.Store c.is_full.new.self.registry =
@@ -61,18 +62,18 @@ returns-clause-leaves g c h clean away ts bytes v u words key_ok fits at waits f
     let room : length u.answered < 100000 = omega (arith, many, few) in
     let can : CanAnswer u c.args.key.now c.args.command.now =
     record { key_ok = key_ok; free = no_key; room = room; fits = fits } in
-    let quiet = quiet_same view c.args.self.now.shelf c.is_full.new.self.shelf
+    let quiet = quiet_same j c.args.self.now.shelf c.is_full.new.self.shelf
     c.is_full.ensures.shelf in
-    let same = ap size c.is_full.ensures.shelf in
-    let at1 = still g.S.Store view size c.args.self.now.registry c.args.self.now.shelf
+    let same = ap j.size c.is_full.ensures.shelf in
+    let at1 = still g.S.Store j c.args.self.now.registry c.args.self.now.shelf
     c.is_full.new.self.shelf away ts bytes v u at lawful quiet same c.is_full.new.self.registry
     told.1 in
     let h1 = subst g.H.Shelf.honest (sym c.is_full.ensures.shelf) h in
-    let all : IsQuiet (view c.args.self.now.shelf) (view c.choose.new.self.shelf) =
-    subst (λ (k : g.row.H.Denot). IsQuiet (g.H.Shelf.view k)
-    (g.H.Shelf.view c.choose.new.self.shelf)) c.is_full.ensures.shelf
+    let all : IsQuiet (j.view c.args.self.now.shelf) (j.view c.choose.new.self.shelf) =
+    subst (λ (k : g.row.H.Denot). IsQuiet (j.view k)
+    (j.view c.choose.new.self.shelf)) c.is_full.ensures.shelf
     (c.choose.ensures.accepts.only.reads h1).quiet in
-    then_step g.S.Store view size c.args.self.now.registry c.args.self.now.shelf
+    then_step g.S.Store j c.args.self.now.registry c.args.self.now.shelf
     c.is_full.new.self.shelf away ts bytes v u at lawful quiet same c.is_full.new.self.registry
     c.choose.new.self.registry c.choose.new.self.shelf c.args.key.now c.args.command.now all
     (saved g.S.Store g.met.S.Store.settled c.args.self.now.registry at.tables at.has).crash
@@ -82,10 +83,9 @@ pub returns-clause-done : goal.returns-clause-done
 returns-clause-done g c h clean =
     let h1 = subst g.H.Shelf.honest (sym c.is_full.ensures.shelf) h in
     ok_then _ _ (λ a answered away ts bytes v u words key_ok fits at waits free. (
-    let view = g.H.Shelf.view in
-    let size = g.H.Shelf.size in
+    let j = g.H.Shelf in
     let lawful = g.met.H.Shelf.lawful c.args.self.now.shelf h in
-    let l = seen_leads g.S.Store g.H.Shelf.view g.H.Shelf.size c.args.self.now.registry
+    let l = seen_leads g.S.Store j c.args.self.now.registry
     c.args.self.now.shelf away ts bytes v u at lawful in
     let no_key = free_key u at.tables l.sound l.records c.args.key.now c.args.command.now free in
     let counted : DiskKept g.S.Store c.is_full.new.self.registry =
@@ -97,10 +97,10 @@ returns-clause-done g c h clean =
     let room : length u.answered < 100000 = omega (arith, many, few) in
     let can : CanAnswer u c.args.key.now c.args.command.now =
     record { key_ok = key_ok; free = no_key; room = room; fits = fits } in
-    let quiet = quiet_same view c.args.self.now.shelf c.is_full.new.self.shelf
+    let quiet = quiet_same j c.args.self.now.shelf c.is_full.new.self.shelf
     c.is_full.ensures.shelf in
-    let same = ap size c.is_full.ensures.shelf in
-    let at1 = still g.S.Store view size c.args.self.now.registry c.args.self.now.shelf
+    let same = ap j.size c.is_full.ensures.shelf in
+    let at1 = still g.S.Store j c.args.self.now.registry c.args.self.now.shelf
     c.is_full.new.self.shelf away ts bytes v u at lawful quiet same c.is_full.new.self.registry
     told.1 in
     answered away ts bytes v u words at1 waits can)) c.choose.result (c.choose.ensures.done h1
@@ -108,10 +108,11 @@ returns-clause-done g c h clean =
 
 pub returns-in_err-is_full-clause-leaves : goal.returns-in_err-is_full-clause-leaves
 returns-in_err-is_full-clause-leaves g c h clean away ts bytes v u words key_ok fits at waits free =
-    unstepped g.S.Store g.H.Shelf.view g.H.Shelf.size c.args.self.now.registry c.args.self.now.shelf
+    let j = g.H.Shelf in
+    unstepped g.S.Store j c.args.self.now.registry c.args.self.now.shelf
     c.is_full.new.self.shelf away ts bytes v u at (g.met.H.Shelf.lawful c.args.self.now.shelf h)
-    (quiet_same g.H.Shelf.view c.args.self.now.shelf c.is_full.new.self.shelf
-    c.is_full.ensures.shelf) (ap g.H.Shelf.size c.is_full.ensures.shelf)
+    (quiet_same j c.args.self.now.shelf c.is_full.new.self.shelf
+    c.is_full.ensures.shelf) (ap j.size c.is_full.ensures.shelf)
     c.is_full.new.self.registry c.args.key.now c.args.command.now
     (saved g.S.Store g.met.S.Store.settled c.args.self.now.registry at.tables at.has).crash
     clean (c.is_full.ensures.reads.left at.tables at.has)

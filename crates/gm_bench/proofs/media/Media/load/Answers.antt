@@ -1,4 +1,4 @@
-use Rattle.std.proofs.Common.{◌≡◌, ◌∙◌, sym}
+use Rattle.std.proofs.Common.{rules, ◌≡◌, ◌∙◌, sym}
 use Rattle.gm_bench.specs.declared.fault.BenchFault.TheVariants.{Store, Unreadable}
 use Rattle.gm_bench.proofs.Causes.{of_failed, of_unreadable}
 use Rattle.gm_bench.proofs.Found.{loaded}
@@ -8,19 +8,23 @@ pub returns-in-Ok-clause-says : goal.returns-in-Ok-clause-says
 returns-in-Ok-clause-says g c h clean away ts bytes u w at =
     let lawful = g.met.H.Shelf.lawful c.args.self.now.shelf h in
     let of = c.in-Ok.ensures.loaded clean at.tables at.has in
-    let same = loaded g.S.Store g.H.Shelf.view g.H.Shelf.size c.args.self.now.registry
+    let same = loaded g.S.Store g.H.Shelf c.args.self.now.registry
     c.args.self.now.shelf away ts bytes u w at lawful c.in-Ok.loaded.state
     c.in-Ok.loaded.intents.items c.in-Ok.loaded.bytes.items of.0 in
     (same.0, same.1, same.2, of.1.tables)
 
-pub returns-in-Err-clause-unreadable : goal.returns-in-Err-clause-unreadable
-returns-in-Err-clause-unreadable g c clean is t s ts bytes has of =
-    let fault : c.of_store.result ≡ Unreadable = cc in
-    c.in-Err.ensures.unreadable clean (of_unreadable c.in-Err.fault
-    (sym c.of_store.ensures.value ∙ fault)) t s ts bytes has of
-
-pub returns-in-Err-clause-store : goal.returns-in-Err-clause-store
-returns-in-Err-clause-store g c clean is registry =
-    let fault : c.of_store.result ≡ Store = cc in
-    c.in-Err.ensures.store clean (of_failed c.in-Err.fault
-    (sym c.of_store.ensures.value ∙ fault)) registry
+pub returns-in-Err-clause-loads : goal.returns-in-Err-clause-loads
+returns-in-Err-clause-loads g c = record {
+  unreadable = λ clean is t s ts bytes has of.
+      let fault : c.of_store.result ≡ Unreadable = cc in
+      c.in-Err.ensures.unreadable clean (of_unreadable c.in-Err.fault
+      (sym c.of_store.ensures.value ∙ fault)) t s ts bytes has of;
+  store = λ clean is registry.
+      let fault : c.of_store.result ≡ Store = cc in
+      c.in-Err.ensures.store clean (of_failed c.in-Err.fault
+      (sym c.of_store.ensures.value ∙ fault)) registry;
+  untouched = search rules;
+  fault = search rules;
+  reads = search rules;
+  shelf = search rules;
+}

@@ -15,7 +15,7 @@ use Rattle.gm_bench.proofs.media.Media.lose.Goals as goal
 pub returns-in-Some-clause-leaves : goal.returns-in-Some-clause-leaves
 returns-in-Some-clause-leaves g c h clean p =
     inl (
-      λ away ts bytes u w was. not_committed g.S.Store g.H.Shelf.view g.H.Shelf.size
+      λ away ts bytes u w was. not_committed g.S.Store g.H.Shelf
           c.args.self.now.registry c.args.self.now.registry c.args.self.now.shelf away ts bytes u w
           (g.met.H.Shelf.lawful c.args.self.now.shelf h) was.found
           (saved g.S.Store g.met.S.Store.settled c.args.self.now.registry was.found.tables
@@ -30,17 +30,17 @@ returns-in_err-number-clause-leaves g c h clean p =
 
 pub returns-in_err-finish-clause-leaves : goal.returns-in_err-finish-clause-leaves
 returns-in_err-finish-clause-leaves g c h clean p =
-    let view = g.H.Shelf.view in
-    let size = g.H.Shelf.size in
+    let j = g.H.Shelf in
     let k0 = c.args.self.now.shelf in
     let k1 = c.commit_loss.new.self.shelf in
     let mid = c.commit_loss.new.self.registry in
-    let clean1 : DiskKept g.S.Store mid = omega (arith, clean, c.finish.ensures.keep.clean) in
+    let clean1 : DiskKept g.S.Store mid =
+    omega (arith, clean, c.finish.ensures.finishes.keep.clean) in
     let lawful = g.met.H.Shelf.lawful k0 h in
     let h1 : g.H.Shelf.honest k1 =
     subst g.H.Shelf.honest (sym c.commit_loss.ensures.alone.shelf) h in
-    let none : first_absent c.args.loss.now.after (size k0) c.args.loss.now.intents.items ≡ None =
-    subst (λ (is : List Intent). first_absent c.args.loss.now.after (size k0) is ≡ None)
+    let none : first_absent c.args.loss.now.after (j.size k0) c.args.loss.now.intents.items ≡ None =
+    subst (λ (is : List Intent). first_absent c.args.loss.now.after (j.size k0) is ≡ None)
     c.deref.ensures.value (sym c.first_absent.ensures ∙ c.in_default.is) in
     inr (
       mid,
@@ -48,19 +48,19 @@ returns-in_err-finish-clause-leaves g c h clean p =
       λ away ts bytes u w was. (
           let it = c.in_ok-number.ensures.done h clean1 p away ts bytes u w was in
           let here =
-          at_hand g.S.Store view size mid k0 k1 away c.args.loss.now c.args.key.now p ts u w
+          at_hand g.S.Store j mid k0 k1 away c.args.loss.now c.args.key.now p ts u w
           c.in_ok-number.number lawful c.commit_loss.ensures.alone.shelf it none
           c.deref-2.result.now
           c.deref-2.ensures.value c.deref-3.result.now c.deref-3.ensures.value in
           let cover =
-          covers g.S.Store view size mid k0 k1 away c.args.loss.now c.args.key.now p ts u w
+          covers g.S.Store j mid k0 k1 away c.args.loss.now c.args.key.now p ts u w
           c.in_ok-number.number lawful c.commit_loss.ensures.alone.shelf it none
           c.deref-2.result.now
           c.deref-2.ensures.value c.deref-3.result.now c.deref-3.ensures.value in (
             it.0,
             it.1,
             it.4,
-            subst (λ (x : g.row.H.Denot). LeavesOnly g.S.Store view size mid
+            subst (λ (x : g.row.H.Denot). LeavesOnly g.S.Store j mid
                 c.finish.new.self.registry x c.finish.new.self.shelf away u it.0)
                 c.commit_loss.ensures.alone.shelf
                 (c.finish.ensures.leaves h1 clean away u it.0 here cover),
@@ -69,17 +69,17 @@ returns-in_err-finish-clause-leaves g c h clean p =
 
 pub returns-clause-leaves : goal.returns-clause-leaves
 returns-clause-leaves g c h clean p =
-    let view = g.H.Shelf.view in
-    let size = g.H.Shelf.size in
+    let j = g.H.Shelf in
     let k0 = c.args.self.now.shelf in
     let k1 = c.commit_loss.new.self.shelf in
     let mid = c.commit_loss.new.self.registry in
-    let clean1 : DiskKept g.S.Store mid = omega (arith, clean, c.finish.ensures.keep.clean) in
+    let clean1 : DiskKept g.S.Store mid =
+    omega (arith, clean, c.finish.ensures.finishes.keep.clean) in
     let lawful = g.met.H.Shelf.lawful k0 h in
     let h1 : g.H.Shelf.honest k1 =
     subst g.H.Shelf.honest (sym c.commit_loss.ensures.alone.shelf) h in
-    let none : first_absent c.args.loss.now.after (size k0) c.args.loss.now.intents.items ≡ None =
-    subst (λ (is : List Intent). first_absent c.args.loss.now.after (size k0) is ≡ None)
+    let none : first_absent c.args.loss.now.after (j.size k0) c.args.loss.now.intents.items ≡ None =
+    subst (λ (is : List Intent). first_absent c.args.loss.now.after (j.size k0) is ≡ None)
     c.deref.ensures.value (sym c.first_absent.ensures ∙ c.in_default.is) in
     inr (
       mid,
@@ -87,19 +87,19 @@ returns-clause-leaves g c h clean p =
       λ away ts bytes u w was. (
           let it = c.in_ok-number.ensures.done h clean1 p away ts bytes u w was in
           let here =
-          at_hand g.S.Store view size mid k0 k1 away c.args.loss.now c.args.key.now p ts u w
+          at_hand g.S.Store j mid k0 k1 away c.args.loss.now c.args.key.now p ts u w
           c.in_ok-number.number lawful c.commit_loss.ensures.alone.shelf it none
           c.deref-2.result.now
           c.deref-2.ensures.value c.deref-3.result.now c.deref-3.ensures.value in
           let cover =
-          covers g.S.Store view size mid k0 k1 away c.args.loss.now c.args.key.now p ts u w
+          covers g.S.Store j mid k0 k1 away c.args.loss.now c.args.key.now p ts u w
           c.in_ok-number.number lawful c.commit_loss.ensures.alone.shelf it none
           c.deref-2.result.now
           c.deref-2.ensures.value c.deref-3.result.now c.deref-3.ensures.value in (
             it.0,
             it.1,
             it.4,
-            subst (λ (x : g.row.H.Denot). LeavesOnly g.S.Store view size mid
+            subst (λ (x : g.row.H.Denot). LeavesOnly g.S.Store j mid
                 c.finish.new.self.registry x c.finish.new.self.shelf away u it.0)
                 c.commit_loss.ensures.alone.shelf
                 (c.finish.ensures.leaves h1 clean away u it.0 here cover),
@@ -108,23 +108,23 @@ returns-clause-leaves g c h clean p =
 
 pub returns-clause-done : goal.returns-clause-done
 returns-clause-done g c h clean p away ts bytes u w was =
-    let view = g.H.Shelf.view in
-    let size = g.H.Shelf.size in
+    let j = g.H.Shelf in
     let k0 = c.args.self.now.shelf in
     let k1 = c.commit_loss.new.self.shelf in
     let mid = c.commit_loss.new.self.registry in
-    let clean1 : DiskKept g.S.Store mid = omega (arith, clean, c.finish.ensures.keep.clean) in
+    let clean1 : DiskKept g.S.Store mid =
+    omega (arith, clean, c.finish.ensures.finishes.keep.clean) in
     let lawful = g.met.H.Shelf.lawful k0 h in
     let h1 : g.H.Shelf.honest k1 =
     subst g.H.Shelf.honest (sym c.commit_loss.ensures.alone.shelf) h in
-    let none : first_absent c.args.loss.now.after (size k0) c.args.loss.now.intents.items ≡ None =
-    subst (λ (is : List Intent). first_absent c.args.loss.now.after (size k0) is ≡ None)
+    let none : first_absent c.args.loss.now.after (j.size k0) c.args.loss.now.intents.items ≡ None =
+    subst (λ (is : List Intent). first_absent c.args.loss.now.after (j.size k0) is ≡ None)
     c.deref.ensures.value (sym c.first_absent.ensures ∙ c.in_default.is) in
     let it = c.in_ok-number.ensures.done h clean1 p away ts bytes u w was in
-    let here = at_hand g.S.Store view size mid k0 k1 away c.args.loss.now c.args.key.now p ts u w
+    let here = at_hand g.S.Store j mid k0 k1 away c.args.loss.now c.args.key.now p ts u w
     c.in_ok-number.number lawful c.commit_loss.ensures.alone.shelf it none c.deref-2.result.now
     c.deref-2.ensures.value c.deref-3.result.now c.deref-3.ensures.value in
-    let cover = covers g.S.Store view size mid k0 k1 away c.args.loss.now c.args.key.now p ts u w
+    let cover = covers g.S.Store j mid k0 k1 away c.args.loss.now c.args.key.now p ts u w
     c.in_ok-number.number lawful c.commit_loss.ensures.alone.shelf it none c.deref-2.result.now
     c.deref-2.ensures.value c.deref-3.result.now c.deref-3.ensures.value in
     (it.0, it.1, it.2, it.3, c.in_ok-finish.ensures.done h1 clean away u it.0 here cover)
@@ -136,20 +136,20 @@ returns-in_err-finish-clause-tells g c = record {
   unread = search rules;
   readable = search rules;
   disk = λ readable state is.
-      let size = g.H.Shelf.size in
+      let j = g.H.Shelf in
       let k0 = c.args.self.now.shelf in
       let fault = fault_is c.from_residual-in_err-finish.result _ _
       c.from_residual-in_err-finish.ensures.1 is in
-      let none : first_absent c.args.loss.now.after (size k0) c.args.loss.now.intents.items
+      let none : first_absent c.args.loss.now.after (j.size k0) c.args.loss.now.intents.items
       ≡ None =
-      subst (λ (is : List Intent). first_absent c.args.loss.now.after (size k0) is ≡ None)
+      subst (λ (is : List Intent). first_absent c.args.loss.now.after (j.size k0) is ≡ None)
       c.deref.ensures.value (sym c.first_absent.ensures ∙ c.in_default.is) in
-      let hand = hand_at c.args.loss.now.after (size k0) state c.args.loss.now.intents.items
+      let hand = hand_at c.args.loss.now.after (j.size k0) state c.args.loss.now.intents.items
       readable.each none in
-      let here = subst₂ (λ (k : g.row.H.Denot) (ts : List Intent). AreAtHand (size k) ts)
+      let here = subst₂ (λ (k : g.row.H.Denot) (ts : List Intent). AreAtHand (j.size k) ts)
       (sym c.commit_loss.ensures.alone.shelf) (sym c.deref-2.ensures.value) hand in
-      subst (λ (k : g.row.H.Denot). (g.H.Shelf.view k).faults
-      < (g.H.Shelf.view c.finish.new.self.shelf).faults) c.commit_loss.ensures.alone.shelf
+      subst (λ (k : g.row.H.Denot). (j.view k).faults
+      < (j.view c.finish.new.self.shelf).faults) c.commit_loss.ensures.alone.shelf
       (c.in_err-finish.ensures.disk here (ap Err fault));
   closed = search rules;
 }
@@ -192,9 +192,9 @@ returns-in_err-number-clause-store g c clean is =
 pub returns-in_err-finish-clause-store : goal.returns-in_err-finish-clause-store
 returns-in_err-finish-clause-store g c clean is t ts has can low state readable room =
     let mid : DiskKept g.S.Store c.commit_loss.new.self.registry =
-    omega (arith, clean, c.finish.ensures.keep.clean) in
+    omega (arith, clean, c.finish.ensures.finishes.keep.clean) in
     let goes = c.in_ok-number.ensures.goes_on mid t has in
     failed_behind g.S.Store c.args.self.now.registry c.commit_loss.new.self.registry goes.counts
-    goes.limit c.finish.new.self.registry (c.in_err-finish.ensures.store clean
+    goes.limit c.finish.new.self.registry (c.in_err-finish.ensures.finishes.store clean
     (ap Err (fault_is c.from_residual-in_err-finish.result _ _
     c.from_residual-in_err-finish.ensures.1 is)) goes.tables goes.has)

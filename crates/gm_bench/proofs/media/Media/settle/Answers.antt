@@ -1,4 +1,4 @@
-use Rattle.std.proofs.Common.{◌≡◌, ◌∙◌, sym}
+use Rattle.std.proofs.Common.{rules, ◌≡◌, ◌∙◌, sym}
 use Rattle.gm_bench.specs.declared.fault.BenchFault.TheVariants.{Disk, Store}
 use Rattle.gm_bench.proofs.Causes.{no_disk, of_failed}
 use Rattle.gm_registry.proofs.CallsLeave.{saved}
@@ -8,7 +8,7 @@ use Rattle.gm_bench.proofs.media.Media.settle.Goals as goal
 pub returns-in-Ok-clause-leaves : goal.returns-in-Ok-clause-leaves
 returns-in-Ok-clause-leaves g c h clean away ts bytes u w at shelf =
     let r = c.args.self.now.registry in
-    settle_leaves g.S.Store g.H.Shelf.view g.H.Shelf.size r c.args.self.now.shelf
+    settle_leaves g.S.Store g.H.Shelf r c.args.self.now.shelf
     c.args.self.now.shelf away ts bytes u w at
     (saved g.S.Store g.met.S.Store.settled r at.tables at.has).crash
     (g.met.H.Shelf.lawful c.args.self.now.shelf h) c.settle.new.self clean
@@ -17,7 +17,7 @@ returns-in-Ok-clause-leaves g c h clean away ts bytes u w at shelf =
 pub returns-in-Err-clause-leaves : goal.returns-in-Err-clause-leaves
 returns-in-Err-clause-leaves g c h clean away ts bytes u w at shelf =
     let r = c.args.self.now.registry in
-    settle_leaves g.S.Store g.H.Shelf.view g.H.Shelf.size r c.args.self.now.shelf
+    settle_leaves g.S.Store g.H.Shelf r c.args.self.now.shelf
     c.args.self.now.shelf away ts bytes u w at
     (saved g.S.Store g.met.S.Store.settled r at.tables at.has).crash
     (g.met.H.Shelf.lawful c.args.self.now.shelf h) c.settle.new.self clean
@@ -26,22 +26,23 @@ returns-in-Err-clause-leaves g c h clean away ts bytes u w at shelf =
 pub returns-in-Ok-clause-done : goal.returns-in-Ok-clause-done
 returns-in-Ok-clause-done g c h clean away ts bytes u w at shelf =
     let r = c.args.self.now.registry in
-    settle_rests g.S.Store g.H.Shelf.view g.H.Shelf.size r c.args.self.now.shelf
+    settle_rests g.S.Store g.H.Shelf r c.args.self.now.shelf
     c.args.self.now.shelf away ts bytes u w at
     (saved g.S.Store g.met.S.Store.settled r at.tables at.has).crash
     (g.met.H.Shelf.lawful c.args.self.now.shelf h) c.settle.new.self
     (c.in-Ok.ensures.writes.done clean at.tables at.has).tables shelf
 
-pub returns-in-Err-clause-disk : goal.returns-in-Err-clause-disk
-returns-in-Err-clause-disk g c is = let fault : c.of_store.result ≡ Disk = cc in
-    no_disk c.in-Err.fault (sym c.of_store.ensures.value ∙ fault)
-
-pub returns-in-Err-clause-store : goal.returns-in-Err-clause-store
-returns-in-Err-clause-store g c clean is t has =
-    let fault : c.of_store.result ≡ Store = cc in
-    c.in-Err.ensures.store clean (of_failed c.in-Err.fault
-    (sym c.of_store.ensures.value ∙ fault)) t has
-
-pub returns-in-Err-clause-refused : goal.returns-in-Err-clause-refused
-returns-in-Err-clause-refused g c clean t has is_open =
-    (c.in-Err.ensures.writes.refused clean t has is_open).tables
+pub returns-in-Err-clause-settles : goal.returns-in-Err-clause-settles
+returns-in-Err-clause-settles g c = record {
+  shelf = search rules;
+  clean = search rules;
+  refused = λ clean t has is_open. (c.in-Err.ensures.writes.refused clean t has is_open).tables;
+  store = λ clean is t has.
+      let fault : c.of_store.result ≡ Store = cc in
+      c.in-Err.ensures.store clean (of_failed c.in-Err.fault
+      (sym c.of_store.ensures.value ∙ fault)) t has;
+  disk = λ is.
+      let fault : c.of_store.result ≡ Disk = cc in
+      no_disk c.in-Err.fault (sym c.of_store.ensures.value ∙ fault);
+  fault = search rules;
+}

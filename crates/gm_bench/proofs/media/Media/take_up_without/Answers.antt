@@ -25,7 +25,7 @@ use Rattle.gm_bench.proofs.media.Media.take_up_without.Goals as goal
 
 pub returns-in_err-looked-clause-leaves : goal.returns-in_err-looked-clause-leaves
 returns-in_err-looked-clause-leaves g c h clean =
-    inl (nothing_opened g.S.Store g.H.Shelf.view g.H.Shelf.size c.args.self.now.registry
+    inl (nothing_opened g.S.Store g.H.Shelf c.args.self.now.registry
     c.look_for_loss.new.self.registry c.args.self.now.shelf c.look_for_loss.new.self.shelf
     c.look_for_loss.ensures.looks.shelf (g.met.H.Shelf.lawful c.args.self.now.shelf h)
     (λ t has. (saved g.S.Store g.met.S.Store.settled c.args.self.now.registry t has).crash)
@@ -33,7 +33,7 @@ returns-in_err-looked-clause-leaves g c h clean =
 
 pub returns-in-Refused-clause-leaves : goal.returns-in-Refused-clause-leaves
 returns-in-Refused-clause-leaves g c h clean =
-    inl (nothing_opened g.S.Store g.H.Shelf.view g.H.Shelf.size c.args.self.now.registry
+    inl (nothing_opened g.S.Store g.H.Shelf c.args.self.now.registry
     c.look_for_loss.new.self.registry c.args.self.now.shelf c.look_for_loss.new.self.shelf
     c.look_for_loss.ensures.looks.shelf (g.met.H.Shelf.lawful c.args.self.now.shelf h)
     (λ t has. (saved g.S.Store g.met.S.Store.settled c.args.self.now.registry t has).crash)
@@ -41,17 +41,17 @@ returns-in-Refused-clause-leaves g c h clean =
 
 pub returns-in-Refused-clause-does : goal.returns-in-Refused-clause-does
 returns-in-Refused-clause-does g c h clean away ts bytes u w at =
-    subst (λ (j : Judged). IsJudged w ts bytes c.args.key.now c.args.provider j) c.in-Refused.is
+    subst (λ (x : Judged). IsJudged w ts bytes c.args.key.now c.args.provider x) c.in-Refused.is
     (c.in_ok-looked.ensures.looked h clean away ts bytes u w at).0.judged
 
 pub returns-in_err-check_and_finish-in-Kept-clause-leaves :
     goal.returns-in_err-check_and_finish-in-Kept-clause-leaves
 returns-in_err-check_and_finish-in-Kept-clause-leaves g c h clean =
     let clean1 : DiskKept g.S.Store c.look_for_loss.new.self.registry =
-    omega (arith, clean, c.check_and_finish.ensures.keep.clean) in
+    omega (arith, clean, c.check_and_finish.ensures.finishes.keep.clean) in
     let h1 : g.H.Shelf.honest c.look_for_loss.new.self.shelf =
     subst g.H.Shelf.honest (sym c.look_for_loss.ensures.looks.shelf) h in
-    inl (finished_opened g.S.Store g.H.Shelf.view g.H.Shelf.size c.args.self.now.registry
+    inl (finished_opened g.S.Store g.H.Shelf c.args.self.now.registry
     c.look_for_loss.new.self.registry c.args.self.now.shelf c.look_for_loss.new.self.shelf
     c.look_for_loss.ensures.looks.shelf (g.met.H.Shelf.lawful c.args.self.now.shelf h)
     (λ t has. (saved g.S.Store g.met.S.Store.settled c.args.self.now.registry t has).crash)
@@ -68,10 +68,10 @@ returns-in_err-check_and_finish-in-Kept-clause-leaves g c h clean =
 pub returns-in-Kept-clause-undone : goal.returns-in-Kept-clause-undone
 returns-in-Kept-clause-undone g c h clean =
     let clean1 : DiskKept g.S.Store c.look_for_loss.new.self.registry =
-    omega (arith, clean, c.check_and_finish.ensures.keep.clean) in
+    omega (arith, clean, c.check_and_finish.ensures.finishes.keep.clean) in
     let h1 : g.H.Shelf.honest c.look_for_loss.new.self.shelf =
     subst g.H.Shelf.honest (sym c.look_for_loss.ensures.looks.shelf) h in
-    finished_opened g.S.Store g.H.Shelf.view g.H.Shelf.size c.args.self.now.registry
+    finished_opened g.S.Store g.H.Shelf c.args.self.now.registry
     c.look_for_loss.new.self.registry c.args.self.now.shelf c.look_for_loss.new.self.shelf
     c.look_for_loss.ensures.looks.shelf (g.met.H.Shelf.lawful c.args.self.now.shelf h)
     (λ t has. (saved g.S.Store g.met.S.Store.settled c.args.self.now.registry t has).crash)
@@ -90,25 +90,24 @@ returns-in-Kept-clause-leaves g c h clean = inl (returns-in-Kept-clause-undone g
 
 pub returns-in-Kept-clause-does : goal.returns-in-Kept-clause-does
 returns-in-Kept-clause-does g c h clean away ts bytes u w at =
-    let view = g.H.Shelf.view in
-    let size = g.H.Shelf.size in
+    let j = g.H.Shelf in
     let r = c.args.self.now.registry in
     let k = c.args.self.now.shelf in
     let mid = c.look_for_loss.new.self.registry in
     let k1 = c.look_for_loss.new.self.shelf in
     let clean1 : DiskKept g.S.Store mid =
-    omega (arith, clean, c.check_and_finish.ensures.keep.clean) in
+    omega (arith, clean, c.check_and_finish.ensures.finishes.keep.clean) in
     let h1 : g.H.Shelf.honest k1 =
     subst g.H.Shelf.honest (sym c.look_for_loss.ensures.looks.shelf) h in
     let looked = c.in_ok-looked.ensures.looked h clean1 away ts bytes u w at in
     let was = looked.0 in
     let are : c.deref.result.now ≡ ts = c.deref.ensures.value ∙ was.intents in
     let laid : c.deref-in-Kept.result.now ≡ bytes = c.deref-in-Kept.ensures.value ∙ was.to_lay in
-    let found = moved g.S.Store view size r mid k k1 away ts bytes u w at
+    let found = moved g.S.Store j r mid k k1 away ts bytes u w at
     c.look_for_loss.ensures.looks.shelf
     c.deref.result.now are c.deref-in-Kept.result.now laid looked.1 in
     let items : c.len-redone.result ≡ length c.in_ok-looked.looked.intents.items = search rules in (
-      subst (λ (j : Judged). IsJudged w ts bytes c.args.key.now c.args.provider j) c.in-Kept.is
+      subst (λ (x : Judged). IsJudged w ts bytes c.args.key.now c.args.provider x) c.in-Kept.is
           was.judged,
       items ∙ ap length was.intents,
       c.in_ok-check_and_finish-in-Kept.ensures.done h1 clean away u w found was.state,
@@ -116,8 +115,7 @@ returns-in-Kept-clause-does g c h clean away ts bytes u w at =
 
 pub returns-in_err-number-in-New-clause-leaves : goal.returns-in_err-number-in-New-clause-leaves
 returns-in_err-number-in-New-clause-leaves g c h clean =
-    let view = g.H.Shelf.view in
-    let size = g.H.Shelf.size in
+    let j = g.H.Shelf in
     let r = c.args.self.now.registry in
     let k = c.args.self.now.shelf in
     let mid = c.look_for_loss.new.self.registry in
@@ -127,13 +125,13 @@ returns-in_err-number-in-New-clause-leaves g c h clean =
     subst g.H.Shelf.honest (sym c.look_for_loss.ensures.looks.shelf) h in
     let loss : Loss = c.in-New.loss in
     let is_judged : (away : Image) (ts : List Intent) (bytes : List (List ℕ)) (u w : World)
-    → IsFound g.S.Store view size r k away ts bytes u w
-    → HasJudged g.S.Store view size mid k1 c.args.key.now c.args.provider loss away ts bytes u w =
+    → IsFound g.S.Store j r k away ts bytes u w
+    → HasJudged g.S.Store j mid k1 c.args.key.now c.args.provider loss away ts bytes u w =
     λ away ts bytes u w at. (
     let was = (c.in_ok-looked.ensures.looked h clean1 away ts bytes u w at).0 in
     record {
       found = was.found;
-      judged = subst (λ (j : Judged). IsJudged w ts bytes c.args.key.now c.args.provider j)
+      judged = subst (λ (x : Judged). IsJudged w ts bytes c.args.key.now c.args.provider x)
           c.in-New.is
           was.judged;
     }) in
@@ -142,10 +140,10 @@ returns-in_err-number-in-New-clause-leaves g c h clean =
       dropped c.args.provider c.in_ok-looked.looked.intents.items,
       λ away ts bytes u w at. ap (dropped c.args.provider)
           (c.in_ok-looked.ensures.looked h clean1 away ts bytes u w at).0.intents,
-      lost_behind g.S.Store view size r mid k k1 c.look_for_loss.ensures.looks.shelf
+      lost_behind g.S.Store j r mid k k1 c.look_for_loss.ensures.looks.shelf
           (g.met.H.Shelf.lawful k h)
           (λ t has. (saved g.S.Store g.met.S.Store.settled r t has).crash)
-          (HasJudged g.S.Store view size mid k1 c.args.key.now c.args.provider loss)
+          (HasJudged g.S.Store j mid k1 c.args.key.now c.args.provider loss)
           (loss_call c.args.key.now loss.mirror c.args.provider) c.args.provider is_judged
           c.lose.new.self.registry c.lose.new.self.shelf
           (c.lose.ensures.leaves h1 clean c.args.provider),
@@ -153,8 +151,7 @@ returns-in_err-number-in-New-clause-leaves g c h clean =
 
 pub returns-clause-leaves : goal.returns-clause-leaves
 returns-clause-leaves g c h clean =
-    let view = g.H.Shelf.view in
-    let size = g.H.Shelf.size in
+    let j = g.H.Shelf in
     let r = c.args.self.now.registry in
     let k = c.args.self.now.shelf in
     let mid = c.look_for_loss.new.self.registry in
@@ -164,13 +161,13 @@ returns-clause-leaves g c h clean =
     subst g.H.Shelf.honest (sym c.look_for_loss.ensures.looks.shelf) h in
     let loss : Loss = c.in-New.loss in
     let is_judged : (away : Image) (ts : List Intent) (bytes : List (List ℕ)) (u w : World)
-    → IsFound g.S.Store view size r k away ts bytes u w
-    → HasJudged g.S.Store view size mid k1 c.args.key.now c.args.provider loss away ts bytes u w =
+    → IsFound g.S.Store j r k away ts bytes u w
+    → HasJudged g.S.Store j mid k1 c.args.key.now c.args.provider loss away ts bytes u w =
     λ away ts bytes u w at. (
     let was = (c.in_ok-looked.ensures.looked h clean1 away ts bytes u w at).0 in
     record {
       found = was.found;
-      judged = subst (λ (j : Judged). IsJudged w ts bytes c.args.key.now c.args.provider j)
+      judged = subst (λ (x : Judged). IsJudged w ts bytes c.args.key.now c.args.provider x)
           c.in-New.is
           was.judged;
     }) in
@@ -179,10 +176,10 @@ returns-clause-leaves g c h clean =
       dropped c.args.provider c.in_ok-looked.looked.intents.items,
       λ away ts bytes u w at. ap (dropped c.args.provider)
           (c.in_ok-looked.ensures.looked h clean1 away ts bytes u w at).0.intents,
-      lost_behind g.S.Store view size r mid k k1 c.look_for_loss.ensures.looks.shelf
+      lost_behind g.S.Store j r mid k k1 c.look_for_loss.ensures.looks.shelf
           (g.met.H.Shelf.lawful k h)
           (λ t has. (saved g.S.Store g.met.S.Store.settled r t has).crash)
-          (HasJudged g.S.Store view size mid k1 c.args.key.now c.args.provider loss)
+          (HasJudged g.S.Store j mid k1 c.args.key.now c.args.provider loss)
           (loss_call c.args.key.now loss.mirror c.args.provider) c.args.provider is_judged
           c.lose.new.self.registry c.lose.new.self.shelf
           (c.lose.ensures.leaves h1 clean c.args.provider),
@@ -190,8 +187,7 @@ returns-clause-leaves g c h clean =
 
 pub returns-clause-does : goal.returns-clause-does
 returns-clause-does g c h clean =
-    let view = g.H.Shelf.view in
-    let size = g.H.Shelf.size in
+    let j = g.H.Shelf in
     let r = c.args.self.now.registry in
     let k = c.args.self.now.shelf in
     let mid = c.look_for_loss.new.self.registry in
@@ -201,13 +197,13 @@ returns-clause-does g c h clean =
     subst g.H.Shelf.honest (sym c.look_for_loss.ensures.looks.shelf) h in
     let loss : Loss = c.in-New.loss in
     let is_judged : (away : Image) (ts : List Intent) (bytes : List (List ℕ)) (u w : World)
-    → IsFound g.S.Store view size r k away ts bytes u w
-    → HasJudged g.S.Store view size mid k1 c.args.key.now c.args.provider loss away ts bytes u w =
+    → IsFound g.S.Store j r k away ts bytes u w
+    → HasJudged g.S.Store j mid k1 c.args.key.now c.args.provider loss away ts bytes u w =
     λ away ts bytes u w at. (
     let was = (c.in_ok-looked.ensures.looked h clean1 away ts bytes u w at).0 in
     record {
       found = was.found;
-      judged = subst (λ (j : Judged). IsJudged w ts bytes c.args.key.now c.args.provider j)
+      judged = subst (λ (x : Judged). IsJudged w ts bytes c.args.key.now c.args.provider x)
           c.in-New.is
           was.judged;
     }) in
@@ -226,38 +222,36 @@ returns-clause-does g c h clean =
 pub returns-in_err-check_and_finish-in-Kept-clause-lacks :
     goal.returns-in_err-check_and_finish-in-Kept-clause-lacks
 returns-in_err-check_and_finish-in-Kept-clause-lacks g c h clean q is =
-    let view = g.H.Shelf.view in
-    let size = g.H.Shelf.size in
+    let j = g.H.Shelf in
     let r = c.args.self.now.registry in
     let k = c.args.self.now.shelf in
     let mid = c.look_for_loss.new.self.registry in
     let k1 = c.look_for_loss.new.self.shelf in
     let clean1 : DiskKept g.S.Store mid =
-    omega (arith, clean, c.check_and_finish.ensures.keep.clean) in
+    omega (arith, clean, c.check_and_finish.ensures.finishes.keep.clean) in
     let fault = fault_is c.from_residual-in_err-check_and_finish-in-Kept.result _ _
     c.from_residual-in_err-check_and_finish-in-Kept.ensures.1 is in
-    let lack = c.in_err-check_and_finish-in-Kept.ensures.absent q (ap Err fault) in
-    let opened = nothing_opened g.S.Store view size r mid k k1 c.look_for_loss.ensures.looks.shelf
+    let lack = c.in_err-check_and_finish-in-Kept.ensures.checks.absent q (ap Err fault) in
+    let opened = nothing_opened g.S.Store j r mid k k1 c.look_for_loss.ensures.looks.shelf
     (g.met.H.Shelf.lawful k h) (λ t has. (saved g.S.Store g.met.S.Store.settled r t has).crash)
     c.args.key.now c.args.provider clean1 (c.look_for_loss.ensures.looks.reads clean1).left in (
-      subst (λ (m : Media g.row.S.Denot g.row.H.Denot). LeavesOpened g.S.Store view size
+      subst (λ (m : Media g.row.S.Denot g.row.H.Denot). LeavesOpened g.S.Store j
           c.args.key.now c.args.provider r m.registry k m.shelf) (sym lack.1) opened,
       λ away ts bytes u w at. (
           let was = (c.in_ok-looked.ensures.looked h clean1 away ts bytes u w at).0 in
-          let kept = subst (λ (j : Judged). IsJudged w ts bytes c.args.key.now c.args.provider j)
+          let kept = subst (λ (x : Judged). IsJudged w ts bytes c.args.key.now c.args.provider x)
           c.in-Kept.is was.judged in
           inl (
             kept.0,
             kept.1,
-            absent_back _ _ _ _ _ _ _ was.state (ap size c.look_for_loss.ensures.looks.shelf)
+            absent_back _ _ _ _ _ _ _ was.state (ap j.size c.look_for_loss.ensures.looks.shelf)
                 (c.deref.ensures.value ∙ was.intents) lack.0,
           )),
     )
 
 pub returns-in_err-number-in-New-clause-lacks : goal.returns-in_err-number-in-New-clause-lacks
 returns-in_err-number-in-New-clause-lacks g c h clean q is =
-    let view = g.H.Shelf.view in
-    let size = g.H.Shelf.size in
+    let j = g.H.Shelf in
     let r = c.args.self.now.registry in
     let k = c.args.self.now.shelf in
     let mid = c.look_for_loss.new.self.registry in
@@ -266,26 +260,26 @@ returns-in_err-number-in-New-clause-lacks g c h clean q is =
     let fault = fault_is c.from_residual-in_err-number-in-New.result _ _
     c.from_residual-in_err-number-in-New.ensures.1 is in
     let lack = c.in_err-number-in-New.ensures.tells.absent q (ap Err fault) in
-    let opened = nothing_opened g.S.Store view size r mid k k1 c.look_for_loss.ensures.looks.shelf
+    let opened = nothing_opened g.S.Store j r mid k k1 c.look_for_loss.ensures.looks.shelf
     (g.met.H.Shelf.lawful k h) (λ t has. (saved g.S.Store g.met.S.Store.settled r t has).crash)
     c.args.key.now c.args.provider clean1 (c.look_for_loss.ensures.looks.reads clean1).left in (
-      subst (λ (m : Media g.row.S.Denot g.row.H.Denot). LeavesOpened g.S.Store view size
+      subst (λ (m : Media g.row.S.Denot g.row.H.Denot). LeavesOpened g.S.Store j
           c.args.key.now c.args.provider r m.registry k m.shelf) (sym lack.1) opened,
       λ away ts bytes u w at. (
           let was = (c.in_ok-looked.ensures.looked h clean1 away ts bytes u w at).0 in
           inr (
             c.in-New.loss,
-            subst (λ (j : Judged). IsJudged w ts bytes c.args.key.now c.args.provider j) c.in-New.is
+            subst (λ (x : Judged). IsJudged w ts bytes c.args.key.now c.args.provider x) c.in-New.is
                 was.judged,
-            absent_back c.in-New.loss.after c.in-New.loss.after (size k1) (size k)
+            absent_back c.in-New.loss.after c.in-New.loss.after (j.size k1) (j.size k)
                 c.in-New.loss.intents.items c.in-New.loss.intents.items (Some q) refl
-                (ap size c.look_for_loss.ensures.looks.shelf) refl lack.0,
+                (ap j.size c.look_for_loss.ensures.looks.shelf) refl lack.0,
           )),
     )
 
 pub returns-in-Refused-clause-undone : goal.returns-in-Refused-clause-undone
 returns-in-Refused-clause-undone g c h clean =
-    nothing_opened g.S.Store g.H.Shelf.view g.H.Shelf.size c.args.self.now.registry
+    nothing_opened g.S.Store g.H.Shelf c.args.self.now.registry
     c.look_for_loss.new.self.registry c.args.self.now.shelf c.look_for_loss.new.self.shelf
     c.look_for_loss.ensures.looks.shelf (g.met.H.Shelf.lawful c.args.self.now.shelf h)
     (λ t has. (saved g.S.Store g.met.S.Store.settled c.args.self.now.registry t has).crash)
@@ -321,15 +315,15 @@ returns-in_err-check_and_finish-in-Kept-clause-before g c =
     let same : IsUnwritten c.from_residual-in_err-check_and_finish-in-Kept.result
     → c.check_and_finish.new.self ≡ c.look_for_loss.new.self =
     λ before. (
-    let it = only_absent given c.in_err-check_and_finish-in-Kept.ensures.fault
+    let it = only_absent given c.in_err-check_and_finish-in-Kept.ensures.finishes.fault
     (passed_unwritten c.from_residual-in_err-check_and_finish-in-Kept.result given passed before) in
-    (c.in_err-check_and_finish-in-Kept.ensures.absent it.0 (ap Err it.1)).1) in
+    (c.in_err-check_and_finish-in-Kept.ensures.checks.absent it.0 (ap Err it.1)).1) in
     record {
       shelf = λ before. ap (λ (m : Media g.row.S.Denot g.row.H.Denot). m.shelf) (same before)
           ∙ c.look_for_loss.ensures.looks.shelf;
       registry = λ clean before t has.
           let clean1 : DiskKept g.S.Store c.look_for_loss.new.self.registry =
-          omega (arith, clean, c.check_and_finish.ensures.keep.clean) in
+          omega (arith, clean, c.check_and_finish.ensures.finishes.keep.clean) in
           subst (λ (m : Media g.row.S.Denot g.row.H.Denot). LeavesAlone g.S.Store
           c.args.self.now.registry m.registry) (sym (same before))
           (alone_read g.S.Store c.args.self.now.registry c.look_for_loss.new.self.registry t has
@@ -380,26 +374,26 @@ pub returns-in_err-check_and_finish-in-Kept-clause-tells :
     goal.returns-in_err-check_and_finish-in-Kept-clause-tells
 returns-in_err-check_and_finish-in-Kept-clause-tells g c = record {
   disk = λ clean t has is.
+      let j = g.H.Shelf in
       let clean1 : DiskKept g.S.Store c.look_for_loss.new.self.registry =
-      omega (arith, clean, c.check_and_finish.ensures.keep.clean) in
+      omega (arith, clean, c.check_and_finish.ensures.finishes.keep.clean) in
       let fault = fault_is c.from_residual-in_err-check_and_finish-in-Kept.result _ _
       c.from_residual-in_err-check_and_finish-in-Kept.ensures.1 is in
       let loaded = c.in_ok-looked.ensures.loaded clean1 t has in
       let of = subst₂ (λ (ts : List Intent) (b : List (List ℕ)).
       AreTablesOf t c.in_ok-looked.looked.state ts b) (sym c.deref.ensures.value)
       (sym c.deref-in-Kept.ensures.value) loaded.0 in
-      subst (λ (k : g.row.H.Denot). (g.H.Shelf.view k).faults
-      < (g.H.Shelf.view c.check_and_finish.new.self.shelf).faults)
-      c.look_for_loss.ensures.looks.shelf
+      subst (λ (k : g.row.H.Denot). (j.view k).faults
+      < (j.view c.check_and_finish.new.self.shelf).faults) c.look_for_loss.ensures.looks.shelf
       (c.in_err-check_and_finish-in-Kept.ensures.disk t of (ap Err fault));
   unreadable = search rules;
   store = λ clean is t s ts bytes has of low room.
       let clean1 : DiskKept g.S.Store c.look_for_loss.new.self.registry =
-      omega (arith, clean, c.check_and_finish.ensures.keep.clean) in
+      omega (arith, clean, c.check_and_finish.ensures.finishes.keep.clean) in
       let then = (c.in_ok-looked.ensures.loaded clean1 t has).1 in
       failed_later g.S.Store c.args.self.now.registry c.look_for_loss.new.self.registry t
       (c.look_for_loss.ensures.looks.reads clean1) has then c.check_and_finish.new.self.registry
-      (c.in_err-check_and_finish-in-Kept.ensures.store clean (ap Err (fault_is
+      (c.in_err-check_and_finish-in-Kept.ensures.finishes.store clean (ap Err (fault_is
       c.from_residual-in_err-check_and_finish-in-Kept.result _ _
       c.from_residual-in_err-check_and_finish-in-Kept.ensures.1 is)) t then);
   closed = search rules;
@@ -408,16 +402,17 @@ returns-in_err-check_and_finish-in-Kept-clause-tells g c = record {
 pub returns-in_err-number-in-New-clause-tells : goal.returns-in_err-number-in-New-clause-tells
 returns-in_err-number-in-New-clause-tells g c = record {
   disk = λ clean t has is.
+      let j = g.H.Shelf in
       let clean1 : DiskKept g.S.Store c.look_for_loss.new.self.registry =
       omega (arith, clean, c.lose.ensures.keep.clean) in
       let fault = fault_is c.from_residual-in_err-number-in-New.result _ _
       c.from_residual-in_err-number-in-New.ensures.1 is in
       let loaded = c.in_ok-looked.ensures.loaded clean1 t has in
-      let again = subst (λ (j : Judged). StaysReadable c.in_ok-looked.looked.state
-      c.in_ok-looked.looked.intents.items c.in_ok-looked.looked.bytes.items j) c.in-New.is loaded.2
+      let again = subst (λ (x : Judged). StaysReadable c.in_ok-looked.looked.state
+      c.in_ok-looked.looked.intents.items c.in_ok-looked.looked.bytes.items x) c.in-New.is loaded.2
       loaded.0.readable in
-      subst (λ (k : g.row.H.Denot). (g.H.Shelf.view k).faults
-      < (g.H.Shelf.view c.lose.new.self.shelf).faults) c.look_for_loss.ensures.looks.shelf
+      subst (λ (k : g.row.H.Denot). (j.view k).faults
+      < (j.view c.lose.new.self.shelf).faults) c.look_for_loss.ensures.looks.shelf
       (c.in_err-number-in-New.ensures.tells.disk again.1 again.0 (ap Err fault));
   unreadable = λ clean is t s ts bytes has of written.
       let clean1 : DiskKept g.S.Store c.look_for_loss.new.self.registry =
