@@ -232,7 +232,8 @@ gmbench's own, and the next ones the same with .2 and .3 after it. Each is answe
 it, and after the filling a line says NEW's state.
 
 It may be stopped at any time. The same words go on where it was; if neither OLD nor NEW is in the
-mirror then, with --key and the first key.
+mirror then, with --key and the first key. If NEW is ACTIVE in the mirror before it begins, OLD
+would be removed and nothing added. So without that key it asks first, or wants --force.
 
 Example:
   gmbench replace gm0 b.img c.img";

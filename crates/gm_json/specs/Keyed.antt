@@ -5,6 +5,8 @@ use Rattle.gm_state.specs.declared.intents.Reply.TheVariants.{Plain, Copied}
 use Rattle.gm_looks.specs.declared.unlike.Unlike.{Unlike}
 use Rattle.gm_unlike.specs.Texts.{told_standing}
 use Rattle.serde_json.specs.Data.{Data}
+use Rattle.gm_json.specs.declared.keyed.Acceptance.{Acceptance}
+use Rattle.gm_json.specs.declared.keyed.Acceptance.TheVariants.{Now, Before}
 use Rattle.gm_json.specs.Fields.{each_at, number_at, object_of, text_at, text_of}
 
 -- this answer, with the number of a command
@@ -60,10 +62,15 @@ not_done_data key = object_of (
 abbrev pub recovered_data : ℕ → Data
 recovered_data redone = object_of (number_at (codes "recovered") redone ∷ [])
 
--- the same after an image was given up, by this answer with the number of a command
-abbrev pub recovered_without_data : List ℕ → List ℕ → ℕ → ℕ → Data
-recovered_without_data answer key redone seq = object_of (
-    text_at (codes "answer") answer
+-- how a command is answered that was accepted
+abbrev pub acceptance_word : Acceptance → List ℕ
+acceptance_word Now = codes "ok"
+acceptance_word Before = codes "repeated"
+
+-- the same after an image was given up, by the command with a number
+abbrev pub recovered_without_data : Acceptance → List ℕ → ℕ → ℕ → Data
+recovered_without_data acceptance key redone seq = object_of (
+    text_at (codes "answer") (acceptance_word acceptance)
     ∷ text_at (codes "key") key
     ∷ number_at (codes "recovered") redone
     ∷ number_at (codes "seq") seq
@@ -91,6 +98,6 @@ not_done_json key = text_of (not_done_data key)
 abbrev pub recovered_json : ℕ → List ℕ
 recovered_json redone = text_of (recovered_data redone)
 
-abbrev pub recovered_without_json : List ℕ → List ℕ → ℕ → ℕ → List ℕ
-recovered_without_json answer key redone seq =
-    text_of (recovered_without_data answer key redone seq)
+abbrev pub recovered_without_json : Acceptance → List ℕ → ℕ → ℕ → List ℕ
+recovered_without_json acceptance key redone seq =
+    text_of (recovered_without_data acceptance key redone seq)

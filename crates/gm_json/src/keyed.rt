@@ -4,7 +4,7 @@
 ghost use Rattle.std.specs.Prelude.{◌≡◌, IfOk, map};
 ghost use Rattle.std.specs.String.{string_bytes};
 ghost use Rattle.serde_json.specs.View.{items_of, items_view, view};
-ghost use Rattle.gm_json.specs.Keyed.{in_the_way_data, keyed_done_data, keyed_done_json, keyed_fault_json, keyed_refused_json, keyed_repeated_json, not_done_data, not_done_json, recovered_data, recovered_json, recovered_without_data, recovered_without_json, with_number, with_seq, withheld_data, withheld_json};
+ghost use Rattle.gm_json.specs.Keyed.{acceptance_word, in_the_way_data, keyed_done_data, keyed_done_json, keyed_fault_json, keyed_refused_json, keyed_repeated_json, not_done_data, not_done_json, recovered_data, recovered_json, recovered_without_data, recovered_without_json, with_number, with_seq, withheld_data, withheld_json};
 
 use crate::text::text_of;
 use gm_looks::Unlike;
@@ -138,30 +138,51 @@ pub fn recovered_json(alloc: Global, redone: u64) -> Result<String, AllocError>
     text_of(alloc, &value)
 }
 
+/// When a command was accepted that is answered.
+#[derive(Clone, Copy, Debug, PartialEq, Eq)]
+pub enum Acceptance {
+    Now,
+    /// Under the same key, so that nothing was done anew.
+    Before,
+}
+
+impl Acceptance {
+    // The word for it.
+    fn word(self) -> &'static str
+        ensures { result.now ≡ acceptance_word self }
+    {
+        match self {
+            Acceptance::Now => "ok",
+            Acceptance::Before => "repeated",
+        }
+    }
+}
+
 fn recovered_without_value(
     alloc: Global,
-    answer: &str,
+    acceptance: Acceptance,
     key: &str,
     redone: u64,
     seq: u64,
 ) -> Result<Value, AllocError>
     ensures { IfOk result
-        (λ v. view v ≡ recovered_without_data answer.now key.now redone seq) }
+        (λ v. view v ≡ recovered_without_data acceptance key.now redone seq) }
 {
+    let answer = acceptance.word();
     json!(in alloc; {"answer": answer, "key": key, "recovered": redone, "seq": seq})
 }
 
-/// The same after an image was given up under this number, with this word for an answer.
+/// The same after an image was given up by the command with this number.
 pub fn recovered_without_json(
     alloc: Global,
-    answer: &str,
+    acceptance: Acceptance,
     key: &str,
     redone: u64,
     seq: u64,
 ) -> Result<String, AllocError>
     ensures { IfOk result (λ text. string_bytes text
-        ≡ recovered_without_json answer.now key.now redone seq) }
+        ≡ recovered_without_json acceptance key.now redone seq) }
 {
-    let value = recovered_without_value(alloc, answer, key, redone, seq)?;
+    let value = recovered_without_value(alloc, acceptance, key, redone, seq)?;
     text_of(alloc, &value)
 }

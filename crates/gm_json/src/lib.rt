@@ -26,8 +26,8 @@ pub use answers::{done_json, error_json, fault_json, refused_json, repeated_json
 pub use audits::{audit_json, scrub_json};
 pub use checks::check_json;
 pub use keyed::{
-    keyed_done_json, keyed_fault_json, keyed_refused_json, keyed_repeated_json, not_done_json,
-    recovered_json, recovered_without_json, withheld_json,
+    Acceptance, keyed_done_json, keyed_fault_json, keyed_refused_json, keyed_repeated_json,
+    not_done_json, recovered_json, recovered_without_json, withheld_json,
 };
 pub use mirrors::{mirror_json, status_json};
 pub use sectors::{decode_json, metadata_json};

@@ -1,7 +1,7 @@
 //! Every text is compact, with the keys of each object in byte order.
 
 use gm_json::{
-    audit_json, check_json, decode_json, done_json, error_json, fault_json, held_json,
+    Acceptance, audit_json, check_json, decode_json, done_json, error_json, fault_json, held_json,
     keyed_done_json, keyed_fault_json, keyed_refused_json, keyed_repeated_json, metadata_json,
     mirror_json, not_done_json, recovered_json, recovered_without_json, refused_json,
     repeated_json, scrub_json, shown_json, status_json, tasting_json, withheld_json,
@@ -522,10 +522,16 @@ fn a_command_that_is_not_done_is_told(rt: HostRuntime) {
 #[test]
 fn a_recovery_is_told(rt: HostRuntime) {
     must_be(&rt, recovered_json(rt.alloc(), 2), r#"{"recovered":2}"#);
-    let without = recovered_without_json(rt.alloc(), "ok", "k5", 2, 9);
+    let without = recovered_without_json(rt.alloc(), Acceptance::Now, "k5", 2, 9);
     must_be(
         &rt,
         without,
         r#"{"answer":"ok","key":"k5","recovered":2,"seq":9}"#,
+    );
+    let before = recovered_without_json(rt.alloc(), Acceptance::Before, "k5", 0, 9);
+    must_be(
+        &rt,
+        before,
+        r#"{"answer":"repeated","key":"k5","recovered":0,"seq":9}"#,
     );
 }

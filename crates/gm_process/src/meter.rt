@@ -214,11 +214,12 @@ impl<'a, E: Write> Meter<'a, E> {
         });
     }
 
-    /// Takes a bar away.
+    /// Takes a bar away. What is told after that shows it again.
     pub fn end(&mut self) {
         if self.style == Style::Bar && self.shown.is_some() {
             let _ = self.complaints.write_all(b"\r\x1b[K");
             let _ = self.complaints.flush();
+            self.shown = None;
         }
     }
 }

@@ -8,6 +8,7 @@ use Rattle.gm_bench.specs.declared.loss.LossRefusal.{LossRefusal}
 use Rattle.gm_bench.specs.Without.{number_of_loss}
 use Rattle.gm_lines.specs.Asked.{shown}
 use Rattle.gm_front.specs.Losses.{loss_line}
+use Rattle.gm_json.specs.declared.keyed.Acceptance.TheVariants.{Now, Before}
 use Rattle.gm_json.specs.Keyed.{keyed_refused_json, recovered_without_json}
 
 -- the line of a recovery
@@ -25,9 +26,9 @@ refused_text key why = loss_line key (Err why)
 -- the same as JSON
 abbrev pub without_json : List ℕ → Answer → ℕ → List ℕ
 without_json key (answer.Done n reply) redone =
-    recovered_without_json (codes "ok") (shown key) redone n
+    recovered_without_json Now (shown key) redone n
 without_json key (answer.Repeated n reply) redone =
-    recovered_without_json (codes "repeated") (shown key) redone n
+    recovered_without_json Before (shown key) redone n
 without_json key (answer.Refused why) redone =
     keyed_refused_json (shown key) (number_of_call why)
 

@@ -4,7 +4,7 @@ use crate::place::{Terms, work_at};
 use clap::Error;
 use clap::error::ErrorKind;
 use gm_bench::BenchFault;
-use gm_command_line::{Asked, Job, Reading, Work, asked_of, tip_for};
+use gm_command_line::{Asked, Job, Manner, Reading, Work, asked_of, tip_for};
 use gm_dump::dump;
 use gm_faults::{Fault, explain_fault};
 use gm_looking::{check_place, look_at, show_pending, show_pending_at, taste_folder};
@@ -33,6 +33,33 @@ fn print_error<O: Write, E: Write>(
     Ok(Status::Done)
 }
 
+// Whether work comes from words that somebody types, so that it is explained.
+fn is_typed(work: &Work<'_>) -> bool {
+    matches!(
+        *work,
+        Work::Do { .. } | Work::Command(_) | Work::AdoptAll(_) | Work::Replace(_) | Work::Write(_)
+    )
+}
+
+// Has work done at the bench of a place.
+fn work_there<I: BufRead, O: Write, E: Write>(
+    rt: &HostRuntime,
+    place: Place<'_>,
+    work: &Work<'_>,
+    manner: Manner,
+    patience: Patience,
+    streams: &mut Streams<'_, I, O, E>,
+) -> Result<Status, Fault> {
+    streams.explaining.wanted |= is_typed(work);
+    streams.explaining.folder = String::from_str(rt.alloc(), place.folder)?;
+    let terms = Terms {
+        makes: work.makes_registry() && !manner.existing,
+        patience,
+    };
+    work_at(rt, place, terms, work, streams)
+}
+
+// Does what is asked.
 fn perform<I: BufRead, O: Write, E: Write>(
     rt: &HostRuntime,
     asked: &Asked<'_>,
@@ -78,22 +105,14 @@ fn perform<I: BufRead, O: Write, E: Write>(
             ref work,
             registry,
             folder,
-        } => {
-            streams.explaining.wanted |= matches!(
-                *work,
-                Work::Do { .. }
-                    | Work::Command(_)
-                    | Work::AdoptAll(_)
-                    | Work::Replace(_)
-                    | Work::Write(_)
-            );
-            streams.explaining.folder = String::from_str(rt.alloc(), folder)?;
-            let terms = Terms {
-                makes: work.makes_registry() && !asked.manner.existing,
-                patience,
-            };
-            work_at(rt, Place { registry, folder }, terms, work, streams)
-        }
+        } => work_there(
+            rt,
+            Place { registry, folder },
+            work,
+            asked.manner,
+            patience,
+            streams,
+        ),
     }
 }
 

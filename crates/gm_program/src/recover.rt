@@ -10,7 +10,7 @@ ghost use Rattle.gm_program.specs.Recoveries.{recovered_text, refused_json, refu
 use gm_bench::{Answer, LossRefusal};
 use gm_command_line::Form;
 use gm_front::loss_text;
-use gm_json::{keyed_refused_json, recovered_json, recovered_without_json};
+use gm_json::{Acceptance, keyed_refused_json, recovered_json, recovered_without_json};
 use gm_lines::shown;
 use gm_process::Status;
 use gm_reports::{Report, as_line};
@@ -53,9 +53,11 @@ fn without_json(alloc: Global, key: &str, answer: Answer, redone: u64) -> Result
 {
     let key = shown(key);
     match answer {
-        Answer::Done(number, _) => recovered_without_json(alloc, "ok", key, redone, number),
+        Answer::Done(number, _) => {
+            recovered_without_json(alloc, Acceptance::Now, key, redone, number)
+        }
         Answer::Repeated(number, _) => {
-            recovered_without_json(alloc, "repeated", key, redone, number)
+            recovered_without_json(alloc, Acceptance::Before, key, redone, number)
         }
         Answer::Refused(why) => keyed_refused_json(alloc, key, why.number()),
     }

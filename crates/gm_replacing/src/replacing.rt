@@ -11,9 +11,10 @@ use crate::stopped::Stopped;
 use crate::way::{Way, way_begun, way_now};
 use gm_bench::Bench;
 use gm_by_itself::{first_key, following_key};
-use gm_command_line::Replacing;
+use gm_command_line::{Form, Replacing};
 use gm_commands::is_key;
 use gm_faults::Fault;
+use gm_handing_in::is_wanted;
 use gm_lines::shown;
 use gm_process::{Status, Streams};
 use gm_reports::{no_component, no_mirror, refused};
@@ -59,7 +60,7 @@ fn go<S: Alter, H: Shelf, I: BufRead, O: Write, E: Write>(
             hand_in_step(rt, asked, first, numbered(Step::Insert, 2), bench, streams)?;
             fill_new(rt, asked, bench, streams)
         }
-        Way::Inserted => {
+        Way::Inserted | Way::Filled => {
             fill_new(rt, asked, bench, streams)?;
             hand_in_step(rt, asked, first, numbered(Step::Remove, 2), bench, streams)
         }
@@ -159,6 +160,26 @@ fn say_not_done<I, O: Write, E: Write>(
     Ok(())
 }
 
+// Whether the old image is taken out although the new one was ACTIVE before: if that is forced, or
+// if whoever runs the program wants it. A replacement that was stopped just before its last command
+// left it so.
+fn is_taken_out<I: BufRead, O: Write, E: Write>(
+    alloc: Global,
+    replacing: &Replacing<'_>,
+    first: &str,
+    streams: &mut Streams<'_, I, O, E>,
+) -> Result<bool, Fault> {
+    if !replacing.checks.losses {
+        return Ok(true);
+    }
+    let (mirror, old, new) = (replacing.mirror, replacing.old, replacing.new);
+    let sentence = format!(in alloc;
+        "{new} is ACTIVE in {mirror} already: {old} is taken out, and nothing is put in its place"
+    )?;
+    let sentences = [sentence];
+    is_wanted(alloc, shown(first), Form::Text, &sentences, streams)
+}
+
 // Does what is left of a replacement whose first command has this key.
 fn replace_under<S: Alter, H: Shelf, I: BufRead, O: Write, E: Write>(
     rt: &HostRuntime,
@@ -177,6 +198,9 @@ fn replace_under<S: Alter, H: Shelf, I: BufRead, O: Write, E: Write>(
     let way = way_of(alloc, replacing, first, bench, streams)?;
     if way == Way::RemoveFirst {
         say_removed_first(streams.complaints, replacing);
+    }
+    if way == Way::Filled && !is_taken_out(alloc, replacing, first, streams)? {
+        return Err(Stopped::Refused);
     }
     go(rt, replacing, first, way, bench, streams)
 }

@@ -27,6 +27,9 @@ pub(crate) enum Way {
     RemoveFirst,
     /// The new one is in the mirror already: it is filled, and the old one is removed.
     Inserted,
+    /// The new one is ACTIVE in the mirror already, so that the mirror gets a copy less: the old
+    /// one is removed if that is wanted.
+    Filled,
     /// The old one isn't in the mirror any more: the new one is filled.
     OnlyFill,
 }
@@ -46,6 +49,13 @@ fn is_member(state: &State, mirror: Label, image: Label) -> bool {
         Some(component) => component.mirror == mirror,
         None => false,
     }
+}
+
+// Whether the image is ACTIVE, by its record.
+fn is_active(state: &State, image: Label) -> bool {
+    state
+        .component(image)
+        .is_some_and(|component| component.disk.is_active())
 }
 
 // Whether a mirror has as many components as one may have, and one is ACTIVE beside this one.
@@ -97,6 +107,7 @@ pub(crate) fn way_now<S: Alter, H: Shelf>(
     match (has_old, has_new) {
         (false, false) => Ok(None),
         (false, true) => Ok(Some(Way::OnlyFill)),
+        (true, true) if is_active(state, replacing.new) => Ok(Some(Way::Filled)),
         (true, true) => Ok(Some(Way::Inserted)),
         (true, false) => {
             if is_gone(alloc, bench, mirror, replacing.old)? {

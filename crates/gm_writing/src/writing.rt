@@ -153,6 +153,8 @@ fn hand_in_several<S: Alter, H: Shelf, I, O: Write, E: Write>(
         if !matches!(bench.phase(), Phase::Ready) {
             return Err(Fault::Bench(BenchFault::Closed));
         }
+        // Each answer is a line of its own, so a bar is taken away before them.
+        meter.end();
         let (output, complaints) = (&mut *streams.output, &mut *meter.complaints);
         let explaining = &streams.explaining;
         let status = hand_in_text(rt, text.as_str(), bench, output, complaints, explaining)?;
@@ -161,6 +163,7 @@ fn hand_in_several<S: Alter, H: Shelf, I, O: Write, E: Write>(
         }
         meter.show(patches.mirror, patches.sectors_of(to), patches.sectors());
     }
+    meter.end();
     Ok(Status::Done)
 }
 
@@ -191,16 +194,10 @@ fn hand_in_all<S: Alter, H: Shelf, I: BufRead, O: Write, E: Write>(
     if hand_in_alone(rt, patches, first_new, looks, bench, streams)? != Status::Done {
         return Ok(Status::Refused);
     }
-    // Each answer is a line of its own, so a bar would be torn.
-    let style = if writing.is_quiet {
-        Style::Quiet
-    } else {
-        Style::Lines
-    };
     let after = Part {
         begin: first_new.saturating_add(1),
         end: count,
-        style,
+        style: streams.explaining.style(writing.is_quiet),
     };
     hand_in_several(rt, patches, after, bench, streams)
 }

@@ -125,6 +125,54 @@ expect_refused 'an image that holds data' 'g000004 not done' 'c.img holds data, 
 at_bench replace --force --quiet gm0 b.img c.img
 expect 'unless they are not wanted' 0 "$(lines 'g000004 ok 4\ngm0 c.img ACTIVE\ng000004.2 ok 6')" ''
 
+# ---- a new image that is ACTIVE already
+
+active_bench() {
+    filled_bench "$1"
+    batch 'r1 insert --did 3 gm0 c.img\nk5 advance gm0 c.img\n'
+}
+already='c.img is ACTIVE in gm0 already: b.img is taken out, and nothing is put in its place'
+
+active_bench active
+keep_bench
+at_bench replace gm0 b.img c.img
+expect_refused 'one that is ACTIVE before it begins' 'g000006 not done' "g000006: $already"
+grep -qx 'g000006: --force carries it out all the same' "$work/complaints" && pass 'it says how it is done' ||
+    fail 'it says how it is done' "$(cat "$work/complaints")"
+at_bench replace --key r2 gm0 b.img c.img
+expect_refused 'under a key that is new' 'r2 not done' "r2: $already"
+expect_kept 'nothing was written'
+at_bench replace --force gm0 b.img c.img
+expect 'unless that is forced' 0 "$(lines 'gm0 c.img ACTIVE\ng000006.2 ok 6')" ''
+
+# One that was stopped before its last command.
+active_bench last
+at_bench replace --key r1 gm0 b.img c.img
+expect 'with its first key it goes on' 0 "$(lines 'r1 repeated 4\ngm0 c.img ACTIVE\nr1.2 ok 6')" \
+    'r1: done before, as number 4; nothing is done now'
+
+# Types this answer when it asks.
+answer() {
+    printf '"%s" replace --quiet --registry "%s" --shelf "%s" gm0 b.img c.img >"%s"; echo "$?" >"%s"\n' "$gmbench" \
+        "$registry" "$bench/images" "$work/output" "$work/ended" >"$work/typed"
+    printf "$1" | script -qec "sh $work/typed" /dev/null >"$work/terminal" 2>/dev/null
+    status=$(cat "$work/ended")
+    grep -qF "$already" "$work/terminal" && grep -qF 'go on? (yes or no)' "$work/terminal" && pass "$2: a terminal is asked" ||
+        fail "$2: a terminal is asked" "$(cat "$work/terminal")"
+    : >"$work/complaints"
+}
+if command -v script >/dev/null; then
+    active_bench asked
+    keep_bench
+    answer 'no\n' no
+    expect 'after no' 1 'g000006 not done' ''
+    expect_kept 'nothing is written after no'
+    answer 'yes\n' yes
+    expect 'after yes' 0 "$(lines 'gm0 c.img ACTIVE\ng000006.2 ok 6')" ''
+else
+    skip 'a question at a terminal' 'there is no script(1) here'
+fi
+
 # The new image waits for a rebuild, so the old one stays.
 filled_bench waits
 batch 'k4 configure --autosync off gm0\n'

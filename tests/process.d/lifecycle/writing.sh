@@ -207,7 +207,7 @@ status=$?
 lay_over large.data 100
 expect_data 'they are written' 33000
 
-# ---- its key at a terminal
+# ---- its key, and a bar, at a terminal
 
 if command -v script >/dev/null; then
     printf '"%s" write gm0 --first 0 --file "%s" --registry "%s" --shelf "%s"\n' "$gmbench" "$work/few" "$registry" \
@@ -219,6 +219,19 @@ if command -v script >/dev/null; then
     echo >>"$work/said"
     head -n 1 "$work/shown" >"$work/first"
     expect_same 'a terminal is told the key' "$work/first" "$work/said"
+    # 32 patches: the bar is shown anew below the answers.
+    head -c 1048576 /dev/zero >"$work/many"
+    printf '"%s" write gm0 --first 0 --file "%s" --registry "%s" --shelf "%s"\n' "$gmbench" "$work/many" "$registry" \
+        "$bench/images" >"$work/typed"
+    script -qec "sh $work/typed" /dev/null </dev/null >"$work/terminal" 2>/dev/null
+    cleared=$(printf '\r\033\[K')
+    grep -q "${cleared}gm0 [0-9]*% [0-9.]* of 1 MiB" "$work/terminal" && pass 'a bar shows how far it is' ||
+        fail 'a bar shows how far it is' "$(tail -n 3 "$work/terminal")"
+    tr '\r' '\n' <"$work/terminal" | sed "s/$(printf '\033')\[K//g" | grep -c '^g[0-9.]* ok [0-9]*$' >"$work/answers"
+    [ "$(cat "$work/answers")" = 32 ] && pass 'and tears none of the answers' ||
+        fail 'and tears none of the answers' "$(cat "$work/answers") whole lines, $(tail -n 3 "$work/terminal")"
+    [ "$(tail -c 4 "$work/terminal")" = "$(printf '\r\033[K')" ] && pass 'it is taken away at the end' ||
+        fail 'it is taken away at the end' "$(tail -n 1 "$work/terminal")"
 else
     skip 'the key at a terminal' 'there is no script(1) here'
 fi
