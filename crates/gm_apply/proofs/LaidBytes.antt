@@ -1,5 +1,5 @@
 -- Bytes that are laid over sectors of a provider.
-use Rattle.std.proofs.Common.{◌≡◌, ◌∙◌, inl, inr, ℕ, Some, ◌≤◌, ◌<◌, ◌+◌, ◌-◌, ◌&&◌, length, take, List, true, refl, sym, ap, subst₂, arith, le-leb, lt-ltb, leb-true, ltb-true, nat_le, nat_lt}
+use Rattle.std.proofs.Common.{◌≡◌, ◌∙◌, inl, inr, ℕ, Some, ◌≤◌, ◌<◌, ◌+◌, ◌-◌, ◌&&◌, length, take, List, true, refl, sym, ap, arith, le-leb, lt-ltb, leb-true, ltb-true, nat_le, nat_lt}
 use Rattle.std.proofs.lemmas.Bool.{cases_Bool, and_parts, ltb-false}
 use Rattle.std.proofs.lemmas.List.{get_or-take, length-take-le}
 use Rattle.std.specs.Prelude.{slice_get}
@@ -8,8 +8,8 @@ use Rattle.gm_metadata.specs.Images.{Image, Same, same_label, label_refl}
 use Rattle.gm_shelf.specs.Disk.{View, sector_of, put_run, IsRunWrite}
 use Rattle.gm_state.specs.declared.intents.Intent.TheVariants.{Patch}
 use Rattle.gm_state.specs.Intents.{patches}
-use Rattle.gm_apply.specs.Redo.{with_places, PlacesAreNew, Moments, IsUnderWay}
-use Rattle.gm_apply.proofs.UnderWay.{going_run, moments_same, redone_same}
+use Rattle.gm_apply.specs.Redo.{with_places, IsUnderWay}
+use Rattle.gm_apply.proofs.UnderWay.{going_run}
 use Rattle.gm_apply.proofs.Sectors.{swapped}
 
 -- the first n sectors of the bytes, from sector a of p on, below b
@@ -62,11 +62,11 @@ module _ (p : List ℕ) (a b n : ℕ) (bytes : List (List ℕ)) (few : n ≤ len
 module _ (p : List ℕ) (a b : ℕ) (bytes : List (List ℕ)) (w : Image)
     (says : (q : List ℕ) (j : ℕ) → patches (Patch p a b) q j ≡ true
     → slice_get bytes (j - a) ≡ Some (w q j)) where
-  bytes_same : (q : List ℕ) (j : ℕ) → patches (Patch p a b) q j ≡ true
+  pub bytes_same : (q : List ℕ) (j : ℕ) → patches (Patch p a b) q j ≡ true
       → sector_of bytes (j - a) ≡ w q j
   bytes_same q j e = get_or_from_slice_get bytes (j - a) (w q j) _ (says q j e)
 
-  bytes_enough : b ≤ a + length bytes
+  pub bytes_enough : b ≤ a + length bytes
   bytes_enough =
       elim (cases_Bool (nat_lt a b)) [
         | inr none ↦ (let few : b ≤ a = ltb-false a b none in omega (arith, few))
@@ -81,19 +81,3 @@ module _ (p : List ℕ) (a b : ℕ) (bytes : List (List ℕ)) (w : Image)
             ) refl)) in
             omega (arith, low, within)
       ]
-
-  -- what was laid from a' to b' - 1 are those bytes
-  module _ (a' b' : ℕ) (first : a' ≡ a) (last : b' ≡ b) (old new : View) where
-    pub laid_moments : Moments (patches (Patch p a' b')) (λ q j. sector_of bytes (j - a')) old new
-        → Moments (patches (Patch p a b)) w old new
-    laid_moments moments =
-        moments_same (patches (Patch p a b)) (λ q j. sector_of bytes (j - a)) w bytes_same old new
-        (subst₂ (λ (x y : ℕ). Moments (patches (Patch p x y)) (λ q j. sector_of bytes (j - x))
-        old new) first last moments)
-
-    pub laid_done : (b' ≤ a' + length bytes → PlacesAreNew (patches (Patch p a' b'))
-        (λ q j. sector_of bytes (j - a')) old new) → PlacesAreNew (patches (Patch p a b)) w old new
-    laid_done done =
-        redone_same (patches (Patch p a b)) (λ q j. sector_of bytes (j - a)) w bytes_same old new
-        (subst₂ (λ (x y : ℕ). PlacesAreNew (patches (Patch p x y)) (λ q j. sector_of bytes (j - x))
-        old new) first last (done (omega (arith, first, last, bytes_enough))))

@@ -3,6 +3,7 @@ pub mod EqualSectors
 pub mod LaidBytes
 pub mod LeadsOn
 pub mod Lists
+pub mod OneIntent
 pub mod Others
 pub mod Reached
 pub mod Sectors

@@ -138,10 +138,10 @@ module _ (s : Records) (bytes : List (List ℕ)) (size sizes : Sizes) (same : si
   redo_split = subst (λ (l : List Intent). IsRedo s bytes sizes l old.seen w) split redo
 
   -- what the intent lays
-  abbrev pub index_aim : Image
+  abbrev index_aim : Image
   index_aim = aim_here s bytes sizes w (take k ts) t (drop (k + 1) ts) old.seen redo_split
 
-  pub index_laid : IsLaid s bytes size t mid.seen index_aim
+  index_laid : IsLaid s bytes size t mid.seen index_aim
   index_laid q j named =
       laid_here s bytes sizes w (take k ts) t (drop (k + 1) ts) old.seen redo_split mid.seen
       so_far.seen q j (subst (λ (z : Sizes). names z t q j ≡ true) same named)
@@ -149,17 +149,18 @@ module _ (s : Records) (bytes : List (List ℕ)) (size sizes : Sizes) (same : si
   aims : IsAim s sizes t w index_aim
   aims = is_aim_here s bytes sizes w (take k ts) t (drop (k + 1) ts) old.seen redo_split
 
-  pub index_done : PlacesAreNew (names size t) index_aim mid new
-      → Reaches s sizes (take (k + 1) ts) w old new
+  pub index_done : ((v : Image) → IsLaid s bytes size t mid.seen v
+      → PlacesAreNew (names size t) v mid new) → Reaches s sizes (take (k + 1) ts) w old new
   index_done step =
       subst (λ (l : List Intent). Reaches s sizes l w old new)
       (sym (take_more ts k t within ∙ ap (λ (i : Intent). take k ts ++ i ∷ []) (sym is)))
       (step_done s sizes (take k ts) t (drop (k + 1) ts) w index_aim aims old mid new so_far
-      (subst (λ (z : Sizes). PlacesAreNew (names z t) index_aim mid new) same step))
+      (subst (λ (z : Sizes). PlacesAreNew (names z t) index_aim mid new) same
+      (step index_aim index_laid)))
 
   pub index_moments :
       CrashLeaves old mid (λ x. From old.may_leave (λ d. IsPartlyDone s sizes ts w d x))
-      → Moments (names size t) index_aim mid new
+      → ((v : Image) → IsLaid s bytes size t mid.seen v → Moments (names size t) v mid new)
       → CrashLeaves old new (λ x. From old.may_leave (λ d. IsPartlyDone s sizes ts w d x))
   index_moments moments step =
       subst (λ (l : List Intent). CrashLeaves old new
@@ -167,7 +168,8 @@ module _ (s : Records) (bytes : List (List ℕ)) (size sizes : Sizes) (same : si
       (step_moments s sizes (take k ts) t (drop (k + 1) ts) w index_aim aims old mid new so_far
       (subst (λ (l : List Intent). CrashLeaves old mid
       (λ x. From old.may_leave (λ d. IsPartlyDone s sizes l w d x))) split moments)
-      (subst (λ (z : Sizes). Moments (names z t) index_aim mid new) same step))
+      (subst (λ (z : Sizes). Moments (names z t) index_aim mid new) same
+      (step index_aim index_laid)))
 
 -- ---- before the first of them, and after the last
 

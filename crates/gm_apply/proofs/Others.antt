@@ -1,5 +1,5 @@
 -- What stays of the sectors that nobody writes.
-use Rattle.std.proofs.Common.{◌≡◌, ◌∙◌, ◌⊎◌, inl, inr, ⊎_elim, ℕ, ◌+◌, ◌&&◌, List, Bool, true, false, refl, subst, Some, None}
+use Rattle.std.proofs.Common.{◌≡◌, ◌∙◌, ◌⊎◌, inl, inr, ⊎_elim, ℕ, ◌+◌, List, true, false, refl, subst, Some, None}
 use Rattle.std.proofs.lemmas.Bool.{cases_Bool}
 use Rattle.gm_metadata.specs.Images.{Image, Sizes}
 use Rattle.gm_shelf.specs.Disk.{View, IsPut, Torn, From}
@@ -31,7 +31,7 @@ keeps_start place v = record {
   moments = at_start v _;
 }
 
-pub keeps_trans : (place : Places) (old mid new : View) → KeepsOthers place old mid
+keeps_trans : (place : Places) (old mid new : View) → KeepsOthers place old mid
     → KeepsOthers place mid new → KeepsOthers place old new
 keeps_trans place old mid new first second =
     let join : (x : Image) → From mid.may_leave (λ y. AgreeBut place y x)
@@ -46,7 +46,7 @@ keeps_trans place old mid new first second =
     }
 
 -- more may be written
-pub keeps_within : (place more : Places) (old new : View)
+keeps_within : (place more : Places) (old new : View)
     → ((q : List ℕ) (j : ℕ) → more q j ≡ false → place q j ≡ false) → KeepsOthers place old new
     → KeepsOthers more old new
 keeps_within place more old new within keeps = record {
@@ -84,14 +84,8 @@ others_step size p s old new nothing moments =
     by_size size p (size p) refl nothing
     (λ i is. keeps_last (last_of size p) p i s old new (here size p i is) (moments i is))
 
--- a Meta of a component writes the last sector
-pub written_meta : (b : Bool) (place : Places) → b ≡ true → (q : List ℕ) (j : ℕ)
-    → (b && place q j) ≡ false → place q j ≡ false
-written_meta b place e q j off =
-    let f : (true && place q j) ≡ false = subst (λ (x : Bool). (x && place q j) ≡ false) e off in f
-
 -- what one of the intents writes is written by them all
-pub written_by : (s : Records) (size : Sizes) (ts : List Intent) (t : Intent) → Has ts t
+written_by : (s : Records) (size : Sizes) (ts : List Intent) (t : Intent) → Has ts t
     → (q : List ℕ) (j : ℕ) → is_written s size ts q j ≡ false → writes s size t q j ≡ false
 written_by s size ts t h q j off =
     elim (cases_Bool (writes s size t q j)) [
@@ -100,3 +94,12 @@ written_by s size ts t h q j off =
       | inr e
           ↦ e
     ]
+
+-- one of the intents after those before it
+pub others_on : (s : Records) (size sizes : Sizes) → size ≡ sizes → (ts : List Intent) (t : Intent)
+    → Has ts t → (old mid new : View) → KeepsOthers (is_written s sizes ts) old mid
+    → KeepsOthers (writes s size t) mid new → KeepsOthers (is_written s sizes ts) old new
+others_on s size sizes same ts t h old mid new so_far step =
+    keeps_trans (is_written s sizes ts) old mid new so_far
+    (keeps_within (writes s sizes t) (is_written s sizes ts) mid new (written_by s sizes ts t h)
+    (subst (λ (z : Sizes). KeepsOthers (writes s z t) mid new) same step))

@@ -103,7 +103,7 @@ module _ (s t : List ℕ) (a b i n : ℕ) (low : a ≤ i) (old mid : View)
   ahead j high = so_far s j ∙ laid_out (copies (Copy s t a i)) (λ q j. old.seen s j) old.seen s j
       (copies_none s t a i s j high)
 
-  pub run_told : i + n ≤ b → (q : List ℕ) (j : ℕ) → copies (Copy s t i (i + n)) q j ≡ true
+  run_told : i + n ≤ b → (q : List ℕ) (j : ℕ) → copies (Copy s t i (i + n)) q j ≡ true
       → (copies (Copy s t a b) q j ≡ true) × (mid.seen s j ≡ old.seen s j)
   run_told high q j e =
       let at = copies_range s t i (i + n) q j e in
@@ -113,6 +113,14 @@ module _ (s t : List ℕ) (a b i n : ℕ) (low : a ≤ i) (old mid : View)
       let here : copies (Copy s t a b) t j ≡ true =
       copies_here s t a b j (omega (arith, low, from)) (omega (arith, below, high)) in
       (subst (λ (p : List ℕ). copies (Copy s t a b) p j ≡ true) (sym same) here, ahead j from)
+
+  pub run_gone : i + n ≤ b → (new : View)
+      → IsUnderWay (copies (Copy s t a b)) (λ q j. old.seen s j) old mid
+      → IsUnderWay (copies (Copy s t i (i + n))) (λ q j. mid.seen s j) mid new
+      → IsUnderWay (copies (Copy s t a b)) (λ q j. old.seen s j) old new
+  run_gone high new so_far law =
+      going_trans (copies (Copy s t a b)) (λ q j. old.seen s j) (copies (Copy s t i (i + n)))
+      (λ q j. mid.seen s j) (run_told high) old mid new so_far law
 
   widened : (j : ℕ) → (nat_le a j && nat_lt j (i + n))
       ≡ ((nat_le i j && nat_lt j (i + n)) || (nat_le a j && nat_lt j i))

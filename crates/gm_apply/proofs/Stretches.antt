@@ -5,8 +5,12 @@ use Rattle.std.proofs.lemmas.Bool.{cases_Bool, and_parts}
 use Rattle.std.proofs.lemmas.Bool.Decides.{nat_tests}
 use Rattle.gm_metadata.specs.declared.label.Label.{Label}
 use Rattle.gm_metadata.specs.Images.{Image, Same, same_label, label_tells}
-use Rattle.gm_shelf.specs.Disk.{View, From, sector_of, put_run, IsPutByRun, TornRun, IsRunWrite}
+use Rattle.gm_shelf.specs.Disk.{View, From, sector_of, IsRun, put_run, IsPutByRun, TornRun, IsRunWrite}
 use Rattle.gm_shelf.proofs.Runs.{put_upto}
+
+-- no sectors are held anywhere
+pub none_held : (p : Label) (first : ℕ) (x : Image) → IsRun p first x []
+none_held p first x k few = absurd (omega (arith, few))
 
 module _ (p : Label) (first : ℕ) (run : List (List ℕ)) where
   torn_trans : (d x y : Image) → TornRun p first run d x → TornRun p first run x y

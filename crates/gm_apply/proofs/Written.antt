@@ -14,19 +14,8 @@ use Rattle.gm_state.specs.Lookups.{at_component, metadata, metadata_of, mirror_o
 use Rattle.gm_state.specs.Intents.{IsOf, is_last}
 use Rattle.gm_lists.proofs.Finding.{find_one, not_both}
 use Rattle.gm_state.proofs.TestsTellRules.{member}
-use Rattle.gm_apply.specs.Redo.{Places, last_of, with_places, SomePlacesNew, PlacesAreNew, Moments}
+use Rattle.gm_apply.specs.Redo.{last_of, with_places, SomePlacesNew, PlacesAreNew, Moments}
 use Rattle.gm_apply.proofs.UnderWay.{laid_in, laid_out}
-
--- nothing is meant
-module _ (place : Places) (w : Image) (none : (q : List ℕ) (j : ℕ) → place q j ≡ true → ⊥) where
-  off : (q : List ℕ) (j : ℕ) → place q j ≡ false
-  off q j = elim (cases_Bool (place q j)) [ inl e ↦ absurd (none q j e) | inr e ↦ e ]
-
-  pub nothing_redone : (v : View) → PlacesAreNew place w v v
-  nothing_redone v = record {
-    seen = λ q j. sym (laid_out place w v.seen q j (off q j));
-    left = λ x left. (x, left, λ q j. sym (laid_out place w x q j (off q j)));
-  }
 
 module _ (size : Sizes) (p : List ℕ) (i : ℕ) (is : size p ≡ Some (i + 1)) where
   pub here : last_of size p p i ≡ true

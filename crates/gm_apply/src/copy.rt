@@ -1,13 +1,8 @@
 //! Copies sectors of one provider to another, by runs.
 
-ghost use Rattle.std.specs.Prelude.{◌≡◌, ◌≤◌, ◌<◌, ◌+◌, ◌^◌, length, OnOk};
-ghost use Rattle.gm_metadata.specs.Images.{Same};
-ghost use Rattle.gm_shelf.specs.Disk.{IsRun, put_run, IsRunWrite};
-ghost use Rattle.gm_shelf.specs.Keeping.{Keeps};
+ghost use Rattle.std.specs.Prelude.{◌≡◌, ◌≤◌, ◌<◌, ◌+◌, ◌^◌, [], length};
 ghost use Rattle.gm_state.specs.declared.intents.Intent.TheVariants.{Copy};
-ghost use Rattle.gm_state.specs.Intents.{copies};
-ghost use Rattle.gm_apply.specs.Failing.{IsAbsent, EndsBefore, OneOf, FailsAs};
-ghost use Rattle.gm_apply.specs.Redo.{PlacesAreNew, Moments, KeepsOthers, with_places, IsUnderWay};
+ghost use Rattle.gm_apply.specs.Calls.{Fills, FillsSynced, WritesRun};
 
 use gm_metadata::{Label, same};
 use gm_shelf::{Shelf, ShelfFault};
@@ -22,14 +17,7 @@ pub(crate) fn write_stretch<H: Shelf>(
     first: u64,
     sectors: &[[u8; 512]],
 ) -> Result<(), ShelfFault>
-    ensures written { H.honest shelf.old → OnOk result (Same (H.view shelf.new).seen
-        (put_run target first sectors.now (H.view shelf.old).seen)) }
-    ensures law { H.honest shelf.old →
-        IsRunWrite target first sectors.now (H.view shelf.old) (H.view shelf.new) }
-
-    ensures fails { FailsAs H.Shelf shelf.old shelf.new result (IsAbsent target)
-        (EndsBefore (first + length sectors.now) target) }
-    ensures keeps { Keeps H.Shelf shelf.old shelf.new }
+    ensures { WritesRun H.Shelf shelf.old shelf.new result target first sectors.now [] }
 {
     if !sectors.is_empty() {
         shelf.write_run(target, first, sectors)?;
@@ -47,15 +35,7 @@ fn write_changes<H: Shelf>(
 ) -> Result<(), ShelfFault>
     requires lengths { length held.now ≡ length run.now }
     requires fits { first + length run.now < 2 ^ 64 }
-    ensures written { H.honest shelf.old → IsRun target first (H.view shelf.old).seen held.now →
-        OnOk result (Same (H.view shelf.new).seen
-        (put_run target first run.now (H.view shelf.old).seen)) }
-    ensures law { H.honest shelf.old →
-        IsRunWrite target first run.now (H.view shelf.old) (H.view shelf.new) }
-
-    ensures fails { FailsAs H.Shelf shelf.old shelf.new result (IsAbsent target)
-        (EndsBefore (first + length run.now) target) }
-    ensures keeps { Keeps H.Shelf shelf.old shelf.new }
+    ensures { WritesRun H.Shelf shelf.old shelf.new result target first run.now held.now }
 {
     let mut from = 0;
     for index in 0..run.len() {
@@ -80,16 +60,8 @@ fn copy_run<H: Shelf>(
 ) -> Result<(), ShelfFault>
     requires one_run { sectors ≤ 128 }
     requires fits { first + sectors < 2 ^ 64 }
-    ensures done { H.honest shelf.old → OnOk result (Same (H.view shelf.new).seen
-        (with_places (copies (Copy source target first (first + sectors)))
-        (λ q j. (H.view shelf.old).seen source j) (H.view shelf.old).seen)) }
-    ensures under_way { H.honest shelf.old →
-        IsUnderWay (copies (Copy source target first (first + sectors)))
-        (λ q j. (H.view shelf.old).seen source j) (H.view shelf.old) (H.view shelf.new) }
-
-    ensures fails { FailsAs H.Shelf shelf.old shelf.new result (OneOf IsAbsent source target)
-        (OneOf (EndsBefore (first + sectors)) source target) }
-    ensures keeps { Keeps H.Shelf shelf.old shelf.new }
+    ensures { Fills H.Shelf shelf.old shelf.new result
+        (Copy source target first (first + sectors)) [] }
 {
     let mut held = [[0; 512]; RUN];
     let mut run = [[0; 512]; RUN];
@@ -109,15 +81,7 @@ fn copy_runs<H: Shelf>(
     first: u64,
     end: u64,
 ) -> Result<(), ShelfFault>
-    ensures done { H.honest shelf.old → OnOk result (Same (H.view shelf.new).seen
-        (with_places (copies (Copy source target first end))
-        (λ q j. (H.view shelf.old).seen source j) (H.view shelf.old).seen)) }
-    ensures under_way { H.honest shelf.old → IsUnderWay (copies (Copy source target first end))
-        (λ q j. (H.view shelf.old).seen source j) (H.view shelf.old) (H.view shelf.new) }
-
-    ensures fails { FailsAs H.Shelf shelf.old shelf.new result (OneOf IsAbsent source target)
-        (OneOf (EndsBefore end) source target) }
-    ensures keeps { Keeps H.Shelf shelf.old shelf.new }
+    ensures { Fills H.Shelf shelf.old shelf.new result (Copy source target first end) [] }
 {
     let mut place = first;
     while place < end {
@@ -137,17 +101,7 @@ pub(crate) fn copy_sectors<H: Shelf>(
     first: u64,
     end: u64,
 ) -> Result<(), ShelfFault>
-    ensures done { H.honest shelf.old → OnOk result
-        (PlacesAreNew (copies (Copy source target first end))
-        (λ q j. (H.view shelf.old).seen source j) (H.view shelf.old) (H.view shelf.new)) }
-    ensures moments { H.honest shelf.old → Moments (copies (Copy source target first end))
-        (λ q j. (H.view shelf.old).seen source j) (H.view shelf.old) (H.view shelf.new) }
-    ensures others { H.honest shelf.old →
-        KeepsOthers (copies (Copy source target first end)) (H.view shelf.old) (H.view shelf.new) }
-
-    ensures fails { FailsAs H.Shelf shelf.old shelf.new result (OneOf IsAbsent source target)
-        (OneOf (EndsBefore end) source target) }
-    ensures keeps { Keeps H.Shelf shelf.old shelf.new }
+    ensures { FillsSynced H.Shelf shelf.old shelf.new result (Copy source target first end) [] }
 {
     copy_runs(shelf, source, target, first, end)?;
     shelf.sync(target)?;

@@ -1,10 +1,9 @@
 //! Counts by how many of their first sectors two providers differ, by runs.
 
-ghost use Rattle.std.specs.Prelude.{◌≡◌, ◌≤◌, ◌<◌, ◌+◌, ◌^◌, ℕ, length, IfOk};
-ghost use Rattle.gm_shelf.specs.Disk.{AreReads, sector_of};
-ghost use Rattle.gm_shelf.specs.Keeping.{ReadsOnly};
-ghost use Rattle.gm_apply.specs.DifferingData.{IsDifference, IsWithin, count_differing, sectors_from};
-ghost use Rattle.gm_apply.specs.Failing.{IsAbsent, EndsBefore, HasFewer, OneOf, FailsAs};
+ghost use Rattle.std.specs.Prelude.{◌≡◌, ◌≤◌, ◌<◌, ◌+◌, ◌^◌, ℕ, length};
+ghost use Rattle.gm_shelf.specs.Disk.{sector_of};
+ghost use Rattle.gm_apply.specs.Calls.{TellsDifference, TellsRun};
+ghost use Rattle.gm_apply.specs.DifferingData.{IsDifference, IsWithin, count_differing};
 
 use crate::copy::RUN;
 use crate::equal_data::equal_first;
@@ -62,14 +61,8 @@ fn compare_run<H: Shelf>(
 ) -> Result<Difference, ShelfFault>
     requires lengths { length wanted.old ≡ length held.old }
     requires fits { first + length wanted.old < 2 ^ 64 }
-    ensures told { H.honest shelf.old → IfOk result (IsDifference
-        (sectors_from (H.view shelf.old).seen source first)
-        (sectors_from (H.view shelf.old).seen provider first) (length wanted.old)) }
-    ensures within { IfOk result (IsWithin (length wanted.old)) }
-
-    ensures fails { FailsAs H.Shelf shelf.old shelf.new result (OneOf IsAbsent source provider)
-        (OneOf (EndsBefore (first + length wanted.old)) source provider) }
-    ensures only { ReadsOnly H.Shelf shelf.old shelf.new }
+    ensures { TellsRun H.Shelf shelf.old shelf.new result source provider first
+        (length wanted.old) }
 {
     shelf.read_run(source, first, wanted)?;
     shelf.read_run(provider, first, held)?;
@@ -108,13 +101,7 @@ pub fn differing_sectors<H: Shelf, W: Watch>(
     sectors: u64,
     watch: &mut W,
 ) -> Result<Difference, ShelfFault>
-    ensures told { H.honest shelf.old → IfOk result (IsDifference
-        ((H.view shelf.old).seen source) ((H.view shelf.old).seen provider) sectors) }
-    ensures within { IfOk result (IsWithin sectors) }
-
-    ensures fails { FailsAs H.Shelf shelf.old shelf.new result
-        (OneOf (HasFewer sectors) source provider) (OneOf (HasFewer sectors) source provider) }
-    ensures only { ReadsOnly H.Shelf shelf.old shelf.new }
+    ensures { TellsDifference H.Shelf shelf.old shelf.new result source provider sectors }
 {
     let mut wanted = [[0; 512]; RUN];
     let mut held = [[0; 512]; RUN];

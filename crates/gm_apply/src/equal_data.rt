@@ -1,10 +1,9 @@
 //! Compares the first sectors of two providers, by runs.
 
-ghost use Rattle.std.specs.Prelude.{◌≡◌, ◌≢◌, ◌≤◌, ◌<◌, ◌+◌, ◌^◌, ℕ, length, IfOk};
-ghost use Rattle.gm_shelf.specs.Disk.{AreReads, sector_of};
-ghost use Rattle.gm_shelf.specs.Keeping.{ReadsOnly, Looks};
-ghost use Rattle.gm_apply.specs.EqualData.{CountsEqual, IsEqualPart, reach_of};
-ghost use Rattle.gm_apply.specs.Failing.{IsAbsent, EndsBefore, HasFewer, OneOf, FailsAs};
+ghost use Rattle.std.specs.Prelude.{◌≡◌, ◌≢◌, ◌≤◌, ◌<◌, ◌+◌, ◌^◌, ℕ, length};
+ghost use Rattle.gm_shelf.specs.Disk.{sector_of};
+ghost use Rattle.gm_apply.specs.Calls.{CountsFirst, CountsReach, CountsRun};
+ghost use Rattle.gm_apply.specs.EqualData.{reach_of};
 
 use crate::copy::RUN;
 use crate::watch::Watch;
@@ -38,13 +37,7 @@ fn compare_run<H: Shelf>(
 ) -> Result<usize, ShelfFault>
     requires one_run { sectors ≤ 128 }
     requires fits { first + sectors < 2 ^ 64 }
-    ensures equal { H.honest shelf.old → IfOk result
-        (IsEqualPart (H.view shelf.old).seen source provider first sectors) }
-    ensures within { IfOk result (λ n. n ≤ sectors) }
-
-    ensures fails { FailsAs H.Shelf shelf.old shelf.new result (OneOf IsAbsent source provider)
-        (OneOf (EndsBefore (first + sectors)) source provider) }
-    ensures only { ReadsOnly H.Shelf shelf.old shelf.new }
+    ensures { CountsRun H.Shelf shelf.old shelf.new result source provider first sectors }
 {
     let mut wanted = [[0; 512]; RUN];
     let mut held = [[0; 512]; RUN];
@@ -64,13 +57,7 @@ fn compare_runs<H: Shelf, W: Watch>(
     reach: u64,
     watch: &mut W,
 ) -> Result<u64, ShelfFault>
-    ensures equal { H.honest shelf.old → IfOk result
-        (CountsEqual (H.view shelf.old).seen source provider reach) }
-    ensures within { IfOk result (λ n. n ≤ reach) }
-
-    ensures fails { FailsAs H.Shelf shelf.old shelf.new result
-        (OneOf (HasFewer reach) source provider) (OneOf (HasFewer reach) source provider) }
-    ensures only { ReadsOnly H.Shelf shelf.old shelf.new }
+    ensures { CountsFirst H.Shelf shelf.old shelf.new result source provider reach }
 {
     let mut place = 0;
     while place < reach {
@@ -104,10 +91,7 @@ pub fn equal_sectors<H: Shelf, W: Watch>(
     limit: u64,
     watch: &mut W,
 ) -> Result<u64, ShelfFault>
-    ensures equal { H.honest shelf.old → IfOk result (CountsEqual (H.view shelf.old).seen
-        source provider (reach_of (H.size shelf.old) source provider limit)) }
-    ensures within { IfOk result (λ n. n ≤ reach_of (H.size shelf.old) source provider limit) }
-    ensures looks { Looks H.Shelf shelf.old shelf.new result }
+    ensures { CountsReach H.Shelf shelf.old shelf.new result source provider limit }
 {
     let reach = reach_of(shelf, source, provider, limit);
     if provider == source {

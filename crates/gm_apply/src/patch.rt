@@ -1,13 +1,7 @@
 //! Lays bytes over sectors of a provider.
 
-ghost use Rattle.std.specs.Prelude.{◌≤◌, ◌+◌, ◌-◌, length, OnOk};
-ghost use Rattle.gm_metadata.specs.Images.{Same};
-ghost use Rattle.gm_shelf.specs.Disk.{sector_of};
-ghost use Rattle.gm_shelf.specs.Keeping.{Keeps};
 ghost use Rattle.gm_state.specs.declared.intents.Intent.TheVariants.{Patch};
-ghost use Rattle.gm_state.specs.Intents.{patches};
-ghost use Rattle.gm_apply.specs.Failing.{IsAbsent, EndsBefore, FailsAs};
-ghost use Rattle.gm_apply.specs.Redo.{PlacesAreNew, Moments, KeepsOthers, with_places, IsUnderWay};
+ghost use Rattle.gm_apply.specs.Calls.{Fills, FillsSynced};
 
 use crate::copy::write_stretch;
 use gm_metadata::Label;
@@ -22,15 +16,7 @@ fn lay_run<H: Shelf>(
     end: u64,
     bytes: &[[u8; 512]],
 ) -> Result<(), ShelfFault>
-    ensures done { H.honest shelf.old → end ≤ first + length bytes.now → OnOk result
-        (Same (H.view shelf.new).seen (with_places (patches (Patch provider first end))
-        (λ q j. sector_of bytes.now (j - first)) (H.view shelf.old).seen)) }
-    ensures under_way { H.honest shelf.old → IsUnderWay (patches (Patch provider first end))
-        (λ q j. sector_of bytes.now (j - first)) (H.view shelf.old) (H.view shelf.new) }
-
-    ensures fails { FailsAs H.Shelf shelf.old shelf.new result (IsAbsent provider)
-        (EndsBefore end provider) }
-    ensures keeps { Keeps H.Shelf shelf.old shelf.new }
+    ensures { Fills H.Shelf shelf.old shelf.new result (Patch provider first end) bytes.now }
 {
     if first < end {
         let sectors = (end - first).min(bytes.len() as u64);
@@ -48,17 +34,7 @@ pub(crate) fn lay_sectors<H: Shelf>(
     end: u64,
     bytes: &[[u8; 512]],
 ) -> Result<(), ShelfFault>
-    ensures done { H.honest shelf.old → end ≤ first + length bytes.now → OnOk result
-        (PlacesAreNew (patches (Patch provider first end))
-        (λ q j. sector_of bytes.now (j - first)) (H.view shelf.old) (H.view shelf.new)) }
-    ensures moments { H.honest shelf.old → Moments (patches (Patch provider first end))
-        (λ q j. sector_of bytes.now (j - first)) (H.view shelf.old) (H.view shelf.new) }
-    ensures others { H.honest shelf.old → KeepsOthers (patches (Patch provider first end))
-        (H.view shelf.old) (H.view shelf.new) }
-
-    ensures fails { FailsAs H.Shelf shelf.old shelf.new result (IsAbsent provider)
-        (EndsBefore end provider) }
-    ensures keeps { Keeps H.Shelf shelf.old shelf.new }
+    ensures { FillsSynced H.Shelf shelf.old shelf.new result (Patch provider first end) bytes.now }
 {
     lay_run(shelf, provider, first, end, bytes)?;
     shelf.sync(provider)?;

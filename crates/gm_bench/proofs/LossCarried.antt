@@ -1,5 +1,5 @@
 -- A loss that is committed is ready to be carried out; and one that wasn't leaves what was.
-use Rattle.std.proofs.Common.{◌≡◌, inl, inr, ℕ, List, None, refl, sym, ap, subst}
+use Rattle.std.proofs.Common.{◌≡◌, inl, inr, ℕ, List, [], None, refl, sym, ap, subst}
 use Rattle.sqlite_trees.specs.declared.store.Store.{Ghosts}
 use Rattle.sqlite.specs.Tree.{Trees}
 use Rattle.sqlite.specs.Held.{Held}
@@ -17,7 +17,7 @@ use Rattle.gm_bench.specs.Leading.{AllLead}
 use Rattle.gm_bench.specs.Presence.{first_absent}
 use Rattle.gm_bench.specs.Recovering.{Cover, IsAt, IsFound, LeavesOnly}
 use Rattle.gm_bench.specs.Schedule.{LeavesCommit}
-use Rattle.gm_bench.specs.Without.{Commits, IsLost, LeavesLoss, LeavesOpened}
+use Rattle.gm_bench.specs.Without.{Carries, Commits, DoesLoss, HasJudged, IsLost, LeavesLoss, LeavesOpened, loss_call}
 use Rattle.gm_bench.proofs.Found.{covered, ready}
 use Rattle.gm_bench.proofs.RegistryLeaves.{leads_in, read_only}
 use Rattle.gm_bench.proofs.TakenUp.{absent_back, leaves_back, moved}
@@ -50,13 +50,51 @@ module _ {S H : Type 0} (g : Ghosts S) (j : ShelfGhosts H) where
     lawful_still : IsLawful (j.view k)
     lawful_still = subst (λ (x : H). IsLawful (j.view x)) (sym same) lawful
 
-    pub at_hand : IsAt g j r k away items laid u it.0
+    at_hand : IsAt g j r k away items laid u it.0
     at_hand = ready g j r k away items laid u it.0 found lawful_still loss.after it.5
         (absent_back loss.after loss.after (j.size h) (j.size k) loss.intents.items items None refl
         (sym (ap j.size same)) (sym are) none)
 
-    pub covers : Cover loss.after it.0.state items
+    covers : Cover loss.after it.0.state items
     covers = covered g j r k away items laid u it.0 found lawful_still loss.after it.5
+
+  -- a loss that was judged over r and h, and committed, is finished over mid and k
+  module _ (r mid s : Held S) (h k l : H) (loss : Loss) (key p : List ℕ) (n : ℕ)
+      (lawful : IsLawful (j.view h)) (same : k ≡ h)
+      (none : first_absent loss.after (j.size h) loss.intents.items ≡ None) (items : List Intent)
+      (are : items ≡ loss.intents.items) (laid : List (List ℕ)) (laid_are : laid ≡ loss.bytes.items)
+      (lost : (away : Image) (ts : List Intent) (bytes : List (List ℕ)) (u w : World)
+      → HasJudged g j r h key p loss away ts bytes u w
+      → IsLost g j mid h away loss key p ts u w n) where
+    pub carries_lost : ((away : Image) (u w : World) → IsAt g j mid k away items laid u w
+        → Cover loss.after w.state items → LeavesOnly g j mid s k l away u w)
+        → Carries g j (HasJudged g j r h key p loss) (loss_call key loss.mirror p) p mid s h l
+    carries_lost leaves away ts bytes u w was =
+        let it = lost away ts bytes u w was in (
+          it.0,
+          it.1,
+          it.4,
+          subst (λ (x : H). LeavesOnly g j mid s x l away u it.0) same
+              (leaves away u it.0
+              (at_hand mid h k away loss key p ts u w n lawful same it none items are laid laid_are)
+              (covers mid h k away loss key p ts u w n lawful same it none items are laid
+              laid_are)),
+        )
+
+    pub does_lost : ((away : Image) (u w : World) → IsAt g j mid k away items laid u w
+        → Cover loss.after w.state items → IsAt g j s l away [] [] w w)
+        → DoesLoss g j (HasJudged g j r h key p loss) (loss_call key loss.mirror p) p s l n
+        loss.change.reply
+    does_lost done away ts bytes u w was =
+        let it = lost away ts bytes u w was in (
+          it.0,
+          it.1,
+          it.2,
+          it.3,
+          done away u it.0
+              (at_hand mid h k away loss key p ts u w n lawful same it none items are laid laid_are)
+              (covers mid h k away loss key p ts u w n lawful same it none items are laid laid_are),
+        )
 
 -- after a load and a look at the registry, which leave the shelf
 module _ {S H : Type 0} (g : Ghosts S) (j : ShelfGhosts H) (r mid : Held S)

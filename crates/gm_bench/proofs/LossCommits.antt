@@ -28,7 +28,7 @@ use Rattle.gm_state.proofs.SoundClaims.{some_there}
 use Rattle.gm_lists.proofs.Finding.{find_one, found, not_both}
 use Rattle.gm_state.proofs.FoundRecords.{provider_at}
 use Rattle.gm_lists.proofs.Order.{same_from, same_is}
-use Rattle.gm_state.proofs.Places.{place_from}
+use Rattle.gm_state.proofs.Places.{place_from, placed_by}
 use Rattle.gm_state.proofs.TestsTellRules.{member}
 use Rattle.gm_changes.specs.After.{reply_to, intents_of}
 use Rattle.gm_changes.specs.Decides.{Changed, Makes, changed_by}
@@ -50,7 +50,6 @@ use Rattle.gm_bench.specs.Without.{IsLost, IsNewLoss, loss_call}
 use Rattle.gm_bench.proofs.CallAnswers.{as_many as as_many_of}
 use Rattle.gm_bench.proofs.Found.{lead}
 use Rattle.gm_bench.proofs.LossSources.{has_next, next_told}
-use Rattle.gm_bench.proofs.LossLists.{placed_by}
 use Rattle.gm_bench.proofs.LossReadable.{IsLoss, home, loss_of}
 use Rattle.gm_bench.proofs.LossRemaining.{names_none}
 use Rattle.gm_bench.proofs.Losses.{leads_to_loss, keeps_in_loss}

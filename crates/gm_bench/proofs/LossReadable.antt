@@ -26,7 +26,7 @@ use Rattle.gm_lists.proofs.Lists.{Has-filter, filter-Has}
 use Rattle.gm_changes.specs.After.{metas}
 use Rattle.gm_rules.specs.Step.{Plan}
 use Rattle.gm_bench.specs.Losing.{writes_to, redirected, remaining, left_to_lay, pending_after, HasNext}
-use Rattle.gm_bench.proofs.LossLists.{Has-append}
+use Rattle.gm_state.proofs.Places.{Has-append}
 use Rattle.gm_bench.proofs.LossRemaining.{has_remaining, ordered_after, unpatched_after, uncopied_after, range_stays, one_copy_after, has_meta}
 
 pub apart_from : (a b : List ℕ) → same_label a b ≡ false → a ≢ b

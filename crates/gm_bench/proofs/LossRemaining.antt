@@ -1,7 +1,7 @@
 -- What stays of the pending intents.
 use Rattle.std.proofs.Common.{◌≡◌, ◌≢◌, ◌∙◌, ◌⊎◌, inl, inr, ⊎_elim, ℕ, ◌≤◌, ◌||◌, Bool, true, false, refl, sym, ap, subst, arith, List, [], ◌∷◌, ◌++◌, length, filter}
 use Rattle.std.specs.List.{list_any}
-use Rattle.std.proofs.lemmas.Bool.{cases_Bool, and_parts, or_parts}
+use Rattle.std.proofs.lemmas.Bool.{cases_Bool, and_parts, or_left, or_parts, or_right}
 use Rattle.gm_metadata.specs.Images.{Sizes, same_label}
 use Rattle.gm_state.specs.declared.intents.Intent.{Intent}
 use Rattle.gm_state.specs.declared.intents.Intent.TheVariants.{Meta, Clear, Copy, Dirty, Patch}
@@ -11,10 +11,10 @@ use Rattle.gm_state.specs.Intents.{is_last, is_dirty_of, is_meta_of, copies, nam
 use Rattle.gm_state.specs.Readable.{is_copy, is_patch, is_fill_of, IsOfRange, StandsBetween, AreOrdered, AreOrderedFrom}
 use Rattle.gm_lists.proofs.Finding.{not_both}
 use Rattle.gm_lists.proofs.Order.{same_from, same_is, differ}
-use Rattle.gm_state.proofs.Places.{place_from}
+use Rattle.gm_state.proofs.Places.{copied_by, or_true, place_from, placed_by}
 use Rattle.gm_changes.specs.After.{metas}
 use Rattle.gm_bench.specs.Losing.{writes_to, redirected, remaining}
-use Rattle.gm_bench.proofs.LossLists.{or_true, or_left, or_right, or_none, placed_by, copied_by}
+use Rattle.gm_bench.proofs.LossLists.{or_none}
 
 module _ (p next : List ℕ) where
   -- each that stays was one that doesn't write to p

@@ -26,10 +26,10 @@ use Rattle.gm_state.specs.Intents.{IsOf, AreThere, IsAtHand, is_last, copies, na
 use Rattle.gm_state.specs.Readable.{is_patch, IsCopyWithin, IsPatchWithin, IsReadable, AreReadable}
 use Rattle.gm_state.specs.World.{World, Sound, Below, Claims, CopiesData, claimed, has_syncid, data_at}
 use Rattle.gm_state.proofs.EncodedSectors.{bears_one}
-use Rattle.gm_lists.proofs.Finding.{any_from, not_both, option_cases, found, found_none, find_none, find_one}
+use Rattle.gm_lists.proofs.Finding.{any_from, not_both, option_cases, found, found_none, find_none, find_one, Has-append_left, Has-append_right}
 use Rattle.gm_lists.proofs.Order.{same_from, same_is, same_tells, differ}
 use Rattle.gm_state.proofs.PatchFound.{no_dirt_left}
-use Rattle.gm_state.proofs.Places.{place_from}
+use Rattle.gm_state.proofs.Places.{Has-append, last_named, placed_by, copies_from, place_from}
 use Rattle.gm_state.proofs.TestsTellRules.{member}
 use Rattle.gm_lists.proofs.Putting.{one}
 use Rattle.gm_lists.proofs.Lists.{filter-Has}
@@ -37,7 +37,7 @@ use Rattle.gm_changes.specs.After.{metas}
 use Rattle.gm_state.proofs.ReadableIntents.{lent as lends_on}
 use Rattle.gm_bench.specs.Leading.{Leads, KeepsClaims, ClaimsOf, EachNewClaims}
 use Rattle.gm_bench.specs.Losing.{writes_to, redirected, remaining, left_to_lay, pending_after, as_left, HasNext}
-use Rattle.gm_bench.proofs.LossLists.{Has-append, append-left, append-right, last_is, last_at, last_named, placed_by, copies_from, range_of}
+use Rattle.gm_bench.proofs.LossLists.{last_is, last_at, range_of}
 use Rattle.gm_bench.proofs.LossReadable.{IsLoss, apart_from, home, left_or_none, stays_home, are_readable}
 use Rattle.gm_bench.proofs.LossRemaining.{has_remaining, same_names, place_stays, copied_before, has_meta, meta_has, any_copies_metas, remaining_has}
 use Rattle.gm_bench.proofs.ShelfProviders.{have_sizes}
@@ -252,7 +252,7 @@ module _ (u w v : World) (m : Mirror) (p next : List ℕ) (loss : IsLoss w v m p
       (data_still c.mirror c.on c.on_is (λ s. other (sym c.provider_is ∙ s)) j
       (omega (arith, within, high))) in
       let again : Has after (Patch a x z) =
-      append-left (remaining p next ts) (metas others) (Patch a x z)
+      Has-append_left (remaining p next ts) (metas others) (Patch a x z)
       (remaining_has p next ts (Patch a x z) h e) in
       let all : left_laid ≡ bytes = elim (left_or_none after bytes) [
         | inl some ↦ some.1
@@ -284,7 +284,7 @@ module _ (u w v : World) (m : Mirror) (p next : List ℕ) (loss : IsLoss w v m p
       let at_t : copies (Copy f t a b) t j ≡ true =
       subst (λ (x : List ℕ). copies (Copy f t a b) x j ≡ true) (sym range.0) named in
       let again : Has after (redirected p next (Copy f t a b)) =
-      append-left (remaining p next ts) (metas others) (redirected p next (Copy f t a b))
+      Has-append_left (remaining p next ts) (metas others) (redirected p next (Copy f t a b))
       (remaining_has p next ts (Copy f t a b) h e) in
       let is = readable.each (redirected p next (Copy f t a b)) again in
       elim (cases_Bool (same_label f p)) [
@@ -334,7 +334,7 @@ module _ (u w v : World) (m : Mirror) (p next : List ℕ) (loss : IsLoss w v m p
             let by = placed_by v.size (remaining p next ts) q j
             (place_stays p next v.size ts q j d again) in
             not_both (is_place v.size after q j)
-            (place_from v.size after by.0 q j (append-left (remaining p next ts)
+            (place_from v.size after by.0 q j (Has-append_left (remaining p next ts)
             (metas others) by.0 by.1) by.2) off
       ]
 
@@ -358,7 +358,7 @@ module _ (u w v : World) (m : Mirror) (p next : List ℕ) (loss : IsLoss w v m p
             rw (same_from k.provider k.provider refl, last) refl in
             let place : is_place v.size after k.provider j ≡ true =
             place_from v.size after (Meta k.provider) k.provider j
-            (append-right (remaining p next ts) (metas others) (Meta k.provider)
+            (Has-append_right (remaining p next ts) (metas others) (Meta k.provider)
             (meta_has p next others k g)) named in
             not_both (is_place v.size after q j)
             (subst (λ (x : List ℕ). is_place v.size after x j ≡ true) same place) off) in

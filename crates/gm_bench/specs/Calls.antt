@@ -3,6 +3,7 @@
 use Rattle.std.specs.Prelude.{◌≡◌, ◌≤◌, ◌<◌, ℕ, true, List, Result, IfOk, IfErr, OnOk, OnErr, IsErrOf}
 use Rattle.sqlite_trees.specs.declared.store.Store.{Ghosts as StoreGhosts}
 use Rattle.sqlite.specs.Held.{Held, state}
+use Rattle.gm_metadata.specs.Images.{Image, Sizes}
 use Rattle.gm_shelf.specs.declared.shelf.Shelf.{Ghosts as ShelfGhosts}
 use Rattle.gm_shelf.specs.Keeping.{Keeps, ReadsOnly}
 use Rattle.gm_state.specs.Rows.{Tables}
@@ -123,6 +124,15 @@ pub record TellsOfRecords {S T : Type 0} (s : StoreGhosts S) (old new : Held S)
   pub unreadable : DiskKept s new → IsErrOf result Unreadable → (t : Tables) (r : Records)
       → HasTables s old t → AreRecordsOf t r → ⊥
   pub store : DiskKept s new → IsErrOf result Store → IsRegistry s old → StoreFailed s old new
+
+-- what a look tells of the records that the registry holds, by their rows, and of what an honest
+-- shelf shows, whoever wrote it
+abbrev pub TellsOfBoth : {S H T : Type 0} → StoreGhosts S → ShelfGhosts H → Bench S H → Bench S H
+    → Result T BenchFault → (Records → Sizes → Image → T → Type 0) → Type 0
+TellsOfBoth s h old new result Tells =
+    h.honest (shelf_of old) → DiskKept s (registry_of new) → IfOk result (λ it. (t : Tables)
+    (r : Records) → HasTables s (registry_of old) t → AreRecordsOf t r
+    → Tells r (h.size (shelf_of old)) (h.view (shelf_of old)).seen it)
 
 -- What is told of a command that is handed in by the registry's rows and the shelf's sizes alone.
 module _ {S H T : Type 0} (s : StoreGhosts S) (h : ShelfGhosts H) (old new : Media S H)

@@ -1,6 +1,6 @@
 -- What an opening without a provider leaves, and what it answers, from the store and the shelf
 -- before it.
-use Rattle.std.specs.Prelude.{◌≡◌, ◌⊎◌, ◌+◌, ◌^◌, ◌<◌, ◌≤◌, ℕ, List, [], None, Some, Ok, Err, Result, IfErr, IsErrOf, OnOk, length}
+use Rattle.std.specs.Prelude.{◌≡◌, ◌⊎◌, ◌+◌, ◌^◌, ◌<◌, ◌≤◌, ℕ, List, [], None, Some, Ok, Err, Result, IfErr, IsErrOf, MatchResult, OnOk, length}
 use Rattle.sqlite_trees.specs.declared.store.Store.{Ghosts}
 use Rattle.sqlite_catalog.specs.Listing.{IsSound}
 use Rattle.sqlite.specs.Held.{Held}
@@ -32,7 +32,7 @@ use Rattle.gm_bench.specs.declared.phase.Progress.TheVariants.{Ready}
 use Rattle.gm_bench.specs.declared.take_up_without.TakenUp.{TakenUp}
 use Rattle.gm_bench.specs.declared.take_up_without.TakenUp.TheVariants.{Carried, NotLost}
 use Rattle.gm_bench.specs.Benches.{progress_of, redone_of, registry_of, shelf_of}
-use Rattle.gm_bench.specs.Calls.{TellsDisk, most_rows}
+use Rattle.gm_bench.specs.Calls.{Keep, TellsDisk, most_rows}
 use Rattle.gm_bench.specs.Faults.{IsBeforeWrites, IsOfRegistry}
 use Rattle.gm_bench.specs.Opened.{MayBeCarriedOver}
 use Rattle.gm_bench.specs.Owed.{IsLeft, IsOpening, OpenLeaves}
@@ -216,3 +216,26 @@ module _ {S H : Type 0} (s : Ghosts S) (h : ShelfGhosts H) (store : Held S) (she
     pub failed : IsOpen s store → DiskKept s e.store → e.fault ≡ Store
         → TakesLoss (stored s store) ⊎ IsForeign (stored s store) → StoreFailed s store e.store
     pub closed : e.fault ≡ Closed → ⊥
+
+  -- of either end of an opening without the provider
+  module _ (result : Result (Without S H) (OpenFault S H)) where
+    -- wherever it is stopped, what is there leads to the world that was left, or to the loss's step
+    abbrev pub GivingUpLeaves : Type 0
+    GivingUpLeaves = h.honest shelf → IsOpen s store → MatchResult result
+        (λ it. DiskKept s (store_behind it)
+        → GivesUp s h store shelf key p (store_behind it) (shelf_behind it))
+        (λ e. DiskKept s e.store → GivesUp s h store shelf key p e.store e.shelf)
+
+module _ {S H : Type 0} (s : Ghosts S) (h : ShelfGhosts H) (store : Held S) (shelf : H)
+    (result : Result (Without S H) (OpenFault S H)) where
+  -- neither medium of a store with other tables is touched
+  abbrev pub GivesNoOthersUp : Type 0
+  GivesNoOthersUp = IsOpen s store → IsForeign (stored s store) → MatchResult result
+      (λ it. DiskKept s (store_behind it) → ⊥)
+      (λ e. DiskKept s e.store → LeavesAlone s store e.store × (e.shelf ≡ shelf))
+
+  -- both media are kept
+  abbrev pub GivingUpKeeps : Type 0
+  GivingUpKeeps = MatchResult result
+      (λ it. Keep s h store (store_behind it) shelf (shelf_behind it))
+      (λ e. Keep s h store e.store shelf e.shelf)

@@ -1,22 +1,25 @@
 -- What a call owes that hands in a command: one that accepts it, one that carries it out too, and
--- one that settles it as well. What is said of files goes by the registry's rows and the shelf's
--- sizes alone.
-use Rattle.std.specs.Prelude.{◌≡◌, ◌≢◌, ℕ, List, Result, IfOk, OnOk, OnErr}
+-- one that settles it as well; and one that only carries out what was accepted, or settles it. What
+-- is said of files goes by the registry's rows and the shelf's sizes alone.
+use Rattle.std.specs.Prelude.{◌≡◌, ◌≢◌, ℕ, List, [], Result, IfOk, OnOk, OnErr}
 use Rattle.sqlite_trees.specs.declared.store.Store.{Ghosts as StoreGhosts}
 use Rattle.gm_metadata.specs.Images.{Image}
 use Rattle.gm_shelf.specs.declared.shelf.Shelf.{Ghosts as ShelfGhosts}
 use Rattle.gm_commands.specs.declared.command.Command.{Command}
 use Rattle.gm_state.specs.World.{World}
-use Rattle.gm_registry.specs.Registry.{DiskKept}
+use Rattle.gm_registry.specs.Registry.{DiskKept, Refuses}
 use Rattle.gm_bench.specs.declared.answer.Accepted.{Accepted}
 use Rattle.gm_bench.specs.declared.answer.Answer.{Answer}
+use Rattle.gm_bench.specs.declared.answer.Work.{Work}
 use Rattle.gm_bench.specs.declared.bench.Bench.{Bench}
 use Rattle.gm_bench.specs.declared.fault.BenchFault.{BenchFault}
-use Rattle.gm_bench.specs.declared.phase.Progress.TheVariants.{Failed, Ready}
+use Rattle.gm_bench.specs.declared.phase.Phase.TheVariants as far
+use Rattle.gm_bench.specs.declared.phase.Progress.TheVariants.{Applied, Failed, Pending, Ready}
 use Rattle.gm_bench.specs.Benches.{media_of, progress_of, registry_of, shelf_of}
-use Rattle.gm_bench.specs.Calls.{Accepts, ClosesOnFault, HandsInByRows, RunsOnce, TellsOfRows, TellsStoreOf, TellsUnreadable}
-use Rattle.gm_bench.specs.Owed.{AcceptAnswers, AcceptLeaves, LeavesRun, RunAnswers, RunLeaves}
+use Rattle.gm_bench.specs.Calls.{Accepts, CarriesOut, ClosesOnFault, HandsInByRows, RunsOnce, Settles, TellsOfRows, TellsStoreOf, TellsUnreadable}
+use Rattle.gm_bench.specs.Owed.{AcceptAnswers, AcceptLeaves, ApplyDoes, ApplyLeaves, LeavesRun, RunAnswers, RunLeaves, SettleDoes, SettleLeaves}
 use Rattle.gm_bench.specs.Phases.{IsUndone, answer_of, phase_after, phase_carried, phase_of, progress_after, waiting_of}
+use Rattle.gm_bench.specs.Recovering.{IsAt, LeavesOnly}
 use Rattle.gm_bench.specs.Standing.{IsHandedIn, Stands}
 
 module _ {S H : Type 0} (s : StoreGhosts S) (h : ShelfGhosts H) (old new : Bench S H)
@@ -69,4 +72,56 @@ module _ {S H : Type 0} (s : StoreGhosts S) (h : ShelfGhosts H) (old new : Bench
     pub readable : TellsUnreadable s h (media_of old) (media_of new) result key c
     pub store : TellsStoreOf s h (media_of old) (media_of new) result c
     pub runs : RunsOnce s h old new result
+    pub closes : ClosesOnFault old new result
+
+module _ {S H T : Type 0} (s : StoreGhosts S) (h : ShelfGhosts H) (old new : Bench S H)
+    (result : Result T BenchFault) where
+  -- what is pending is carried out, and is then still to be settled
+  pub record CarriesOutWork : Type 0 where
+    -- the shelf is then the world's
+    pub does : h.honest (shelf_of old) → (work : Work) → progress_of old ≡ Pending work
+        → OnOk result ((progress_of new ≡ Applied work)
+        × ApplyDoes s h (registry_of old) (shelf_of old) (shelf_of new) work)
+    -- a stop leaves what the work leads on from
+    pub leaves : h.honest (shelf_of old) → (work : Work) → progress_of old ≡ Pending work
+        → ApplyLeaves s h (registry_of old) (shelf_of old) (shelf_of new) work
+    pub phase : OnOk result (phase_of (progress_of new) ≡ far.Applied)
+    -- it writes the shelf alone
+    pub carries : CarriesOut s h old new result
+    pub closes : ClosesOnFault old new result
+
+  -- what was carried out is settled
+  pub record SettlesWork : Type 0 where
+    -- the bench is then at rest
+    pub does : h.honest (shelf_of old) → DiskKept s (registry_of new) → (work : Work)
+        → progress_of old ≡ Applied work → OnOk result ((progress_of new ≡ Ready)
+        × SettleDoes s h (registry_of old) (registry_of new) (shelf_of old) work)
+    -- a stop leaves what the work leads on from, or what is at rest
+    pub leaves : h.honest (shelf_of old) → DiskKept s (registry_of new) → (work : Work)
+        → progress_of old ≡ Applied work
+        → SettleLeaves s h (registry_of old) (registry_of new) (shelf_of old) work
+    pub phase : OnOk result (progress_of new ≡ Ready)
+    -- if it fails the tables stay
+    pub refused : Refuses s (registry_of old) (registry_of new) result
+    -- it writes the registry alone
+    pub settles : Settles s old new result
+    pub closes : ClosesOnFault old new result
+
+  -- the last command is settled, if it is still to be settled
+  pub record SettlesLast : Type 0 where
+    -- the bench is then at rest in the world that it stood for
+    pub does : h.honest (shelf_of old) → DiskKept s (registry_of new)
+        → OnOk result ((away : Image) (v u : World)
+        → Stands s h (progress_of old) (registry_of old) (shelf_of old) away v u
+        → IsAt s h (registry_of new) (shelf_of new) away [] [] u u)
+    -- a stop leaves what led to that world
+    pub leaves : h.honest (shelf_of old) → DiskKept s (registry_of new)
+        → (away : Image) (v u : World)
+        → Stands s h (progress_of old) (registry_of old) (shelf_of old) away v u
+        → LeavesOnly s h (registry_of old) (registry_of new) (shelf_of old) (shelf_of new) away v u
+    pub phase : OnOk result (progress_of new ≡ Ready)
+    -- at rest it does nothing
+    pub rests : progress_of old ≡ Ready → OnErr result ⊥ × (new ≡ old)
+    -- it writes the registry alone
+    pub settles : Settles s old new result
     pub closes : ClosesOnFault old new result

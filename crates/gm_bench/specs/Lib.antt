@@ -1,12 +1,15 @@
 pub mod Accepting
 pub mod AdoptScope
+pub mod Asking
 pub mod Benches
 pub mod Calls
+pub mod CarryingOut
 pub mod Faults
 pub mod GivingUp
 pub mod HandedIn
-pub mod Leading
+pub mod Judging
 pub mod KeptCommands
+pub mod Leading
 pub mod Losing
 pub mod Opened
 pub mod Owed
@@ -18,4 +21,5 @@ pub mod Running
 pub mod Schedule
 pub mod ShelfFacts
 pub mod Standing
+pub mod Stepping
 pub mod Without

@@ -1,5 +1,5 @@
 -- What an opening does and tells.
-use Rattle.std.specs.Prelude.{◌≡◌, ◌⊎◌, ◌<◌, ℕ, List, Some, None, Result, length, IfErr, OnOk, IsErrOf}
+use Rattle.std.specs.Prelude.{◌≡◌, ◌⊎◌, ◌<◌, ℕ, List, Some, None, Result, length, IfErr, MatchResult, OnOk, IsErrOf}
 use Rattle.sqlite_trees.specs.declared.store.Store.{Ghosts as StoreGhosts}
 use Rattle.sqlite_catalog.specs.Listing.{IsSound}
 use Rattle.sqlite.specs.Held.{Held}
@@ -22,9 +22,9 @@ use Rattle.gm_bench.specs.declared.fault.BenchFault.TheVariants.{Absent, Closed,
 use Rattle.gm_bench.specs.declared.media.Media.{Media}
 use Rattle.gm_bench.specs.declared.phase.Progress.TheVariants.{Ready}
 use Rattle.gm_bench.specs.Benches.{progress_of, redone_of, registry_of, shelf_of}
-use Rattle.gm_bench.specs.Calls.{TellsDisk}
+use Rattle.gm_bench.specs.Calls.{Keep, TellsDisk}
 use Rattle.gm_bench.specs.Faults.{IsBeforeWrites, IsOfRegistry}
-use Rattle.gm_bench.specs.Owed.{IsLeft, OpenDoes}
+use Rattle.gm_bench.specs.Owed.{IsLeft, OpenDoes, OpenLeaves}
 use Rattle.gm_bench.specs.Presence.{first_absent}
 
 -- ---- of media whose registry is open
@@ -126,3 +126,23 @@ module _ {S H : Type 0} (s : StoreGhosts S) (h : ShelfGhosts H) (store : Held S)
         → DiskKept s e.store → IsBeforeWrites e.fault → LeavesAlone s store e.store
     pub first_alone : IsOpen s store → IsSound first_schema (stored s store)
         → DiskKept s e.store → IsBeforeWrites e.fault → MayBeCarriedOver s store e.store
+
+  -- of either end of an opening
+  module _ (result : Result (Bench S H) (OpenFault S H)) where
+    -- wherever it is stopped, what is there leads to the world that was left
+    abbrev pub OpeningLeaves : Type 0
+    OpeningLeaves = h.honest shelf → IsOpen s store → MatchResult result
+        (λ b. DiskKept s (registry_of b) → OpenLeaves s h store (registry_of b) shelf (shelf_of b))
+        (λ e. DiskKept s e.store → OpenLeaves s h store e.store shelf e.shelf)
+
+    -- neither medium of a store with other tables is touched
+    abbrev pub TurnsOthersAway : Type 0
+    TurnsOthersAway = IsOpen s store → IsForeign (stored s store) → MatchResult result
+        (λ b. DiskKept s (registry_of b) → ⊥)
+        (λ e. DiskKept s e.store → LeavesAlone s store e.store × (e.shelf ≡ shelf))
+
+    -- both media are kept
+    abbrev pub OpeningKeeps : Type 0
+    OpeningKeeps = MatchResult result
+        (λ b. Keep s h store (registry_of b) shelf (shelf_of b))
+        (λ e. Keep s h store e.store shelf e.shelf)

@@ -1,13 +1,9 @@
 //! The opening of a bench, and what it may be asked.
 
-ghost use Rattle.std.specs.Prelude.{◌≡◌, ◌<◌, false, IfOk, IfErr, MatchResult};
-ghost use Rattle.gm_registry.specs.Opening.{IsForeign};
-ghost use Rattle.gm_registry.specs.Registry.{DiskKept, IsOpen, LeavesAlone, stored};
+ghost use Rattle.std.specs.Prelude.{◌≡◌, false, IfOk, IfErr};
 ghost use Rattle.gm_bench.specs.Benches.{progress_of, redone_of, registry_of, shelf_of};
-ghost use Rattle.gm_bench.specs.Owed.{OpenLeaves};
 ghost use Rattle.gm_bench.specs.Phases.{phase_of};
-ghost use Rattle.gm_bench.specs.Calls.{Keep};
-ghost use Rattle.gm_bench.specs.Opened.{IsOpened, IsUnopened};
+ghost use Rattle.gm_bench.specs.Opened.{IsOpened, IsUnopened, OpeningKeeps, OpeningLeaves, TurnsOthersAway};
 
 use crate::fault::BenchFault;
 use crate::media::Media;
@@ -45,21 +41,11 @@ impl<S: Alter, H: Shelf> Bench<S, H> {
         shelf: H,
     ) -> Result<Bench<S, H>, OpenFault<S, H>>
         requires { store.in_transaction ≡ false }
-        ensures leaves { H.honest shelf → IsOpen S.Store store → MatchResult result
-            (λ b. DiskKept S.Store (registry_of b) → OpenLeaves S.Store H.Shelf
-            store (registry_of b) shelf (shelf_of b))
-            (λ e. DiskKept S.Store e.store → OpenLeaves S.Store H.Shelf
-            store e.store shelf e.shelf) }
-        // Neither medium of a store with other tables is touched.
-        ensures foreign { IsOpen S.Store store → IsForeign (stored S.Store store)
-            → MatchResult result (λ b. DiskKept S.Store (registry_of b) → ⊥)
-            (λ e. DiskKept S.Store e.store → LeavesAlone S.Store store e.store
-            × (e.shelf ≡ shelf)) }
+        ensures leaves { OpeningLeaves S.Store H.Shelf store shelf result }
+        ensures foreign { TurnsOthersAway S.Store H.Shelf store shelf result }
         ensures opened { IfOk result (IsOpened S.Store H.Shelf store shelf) }
         ensures unopened { IfErr result (IsUnopened S.Store H.Shelf store shelf) }
-        ensures keep { MatchResult result
-            (λ b. Keep S.Store H.Shelf store (registry_of b) shelf (shelf_of b))
-            (λ e. Keep S.Store H.Shelf store e.store shelf e.shelf) }
+        ensures keep { OpeningKeeps S.Store H.Shelf store shelf result }
     {
         let registry = match Registry::open(store) {
             Ok(registry) => registry,

@@ -1,13 +1,9 @@
 //! Commands: handed in, carried out and settled, one call each or in one.
 
-ghost use Rattle.std.specs.Prelude.{◌≡◌, ◌<◌, OnOk};
-ghost use Rattle.gm_registry.specs.Registry.{DiskKept, Refuses};
-ghost use Rattle.gm_bench.specs.Benches.{progress_of, registry_of, shelf_of};
-ghost use Rattle.gm_bench.specs.declared.answer.Work.{Work};
+ghost use Rattle.gm_bench.specs.Benches.{progress_of};
 ghost use Rattle.gm_bench.specs.HandedIn.{AcceptsCommand, RunsCommand};
-ghost use Rattle.gm_bench.specs.Owed.{ApplyDoes, ApplyLeaves, SettleDoes, SettleLeaves};
-ghost use Rattle.gm_bench.specs.Phases.{TakesCommands, TakesNext, HasWork, HasDone, phase_of};
-ghost use Rattle.gm_bench.specs.Calls.{ClosesOnFault, CarriesOut, Settles};
+ghost use Rattle.gm_bench.specs.Phases.{TakesCommands, TakesNext, HasWork, HasDone};
+ghost use Rattle.gm_bench.specs.HandedIn.{CarriesOutWork, SettlesWork};
 
 use crate::answer::Answer;
 use crate::bench::Bench;
@@ -62,18 +58,7 @@ impl<S: Alter, H: Shelf> Bench<S, H> {
     /// Carries out what is pending. It writes the shelf alone.
     pub fn apply(&mut self) -> Result<(), BenchFault>
         requires { HasWork (progress_of self.old) }
-        ensures does { H.honest (shelf_of self.old) → (work : Work)
-            → progress_of self.old ≡ Progress.Pending work
-            → OnOk result ((progress_of self.new ≡ Progress.Applied work)
-            × ApplyDoes S.Store H.Shelf (registry_of self.old)
-            (shelf_of self.old) (shelf_of self.new) work) }
-        ensures leaves { H.honest (shelf_of self.old) → (work : Work)
-            → progress_of self.old ≡ Progress.Pending work
-            → ApplyLeaves S.Store H.Shelf (registry_of self.old)
-            (shelf_of self.old) (shelf_of self.new) work }
-        ensures phase { OnOk result (phase_of (progress_of self.new) ≡ Phase.Applied) }
-        ensures carries { CarriesOut S.Store H.Shelf self.old self.new result }
-        ensures closes { ClosesOnFault self.old self.new result }
+        ensures { CarriesOutWork S.Store H.Shelf self.old self.new result }
     {
         match mem::replace(&mut self.progress, Progress::Failed) {
             Progress::Pending(work) => {
@@ -88,19 +73,7 @@ impl<S: Alter, H: Shelf> Bench<S, H> {
     /// Forgets what was pending, once it is carried out. It writes the registry alone.
     pub fn settle(&mut self) -> Result<(), BenchFault>
         requires { HasDone (progress_of self.old) }
-        ensures does { H.honest (shelf_of self.old) → DiskKept S.Store (registry_of self.new)
-            → (work : Work) → progress_of self.old ≡ Progress.Applied work
-            → OnOk result ((progress_of self.new ≡ Progress.Ready)
-            × SettleDoes S.Store H.Shelf (registry_of self.old) (registry_of self.new)
-            (shelf_of self.old) work) }
-        ensures leaves { H.honest (shelf_of self.old) → DiskKept S.Store (registry_of self.new)
-            → (work : Work) → progress_of self.old ≡ Progress.Applied work
-            → SettleLeaves S.Store H.Shelf (registry_of self.old) (registry_of self.new)
-            (shelf_of self.old) work }
-        ensures phase { OnOk result (progress_of self.new ≡ Progress.Ready) }
-        ensures refused { Refuses S.Store (registry_of self.old) (registry_of self.new) result }
-        ensures settles { Settles S.Store self.old self.new result }
-        ensures closes { ClosesOnFault self.old self.new result }
+        ensures { SettlesWork S.Store H.Shelf self.old self.new result }
     {
         match mem::replace(&mut self.progress, Progress::Failed) {
             Progress::Applied(_) => {

@@ -1,15 +1,9 @@
 //! Commands that are handed in one after another: each settles the one before it.
 
-ghost use Rattle.std.specs.Prelude.{◌≡◌, ◌<◌, [], OnOk, OnErr};
-ghost use Rattle.gm_metadata.specs.Images.{Image};
-ghost use Rattle.gm_state.specs.World.{World};
-ghost use Rattle.gm_registry.specs.Registry.{DiskKept};
-ghost use Rattle.gm_bench.specs.Benches.{progress_of, registry_of, shelf_of};
-ghost use Rattle.gm_bench.specs.Calls.{ClosesOnFault, Settles};
+ghost use Rattle.gm_bench.specs.Benches.{progress_of};
 ghost use Rattle.gm_bench.specs.HandedIn.{HandsInCommand};
 ghost use Rattle.gm_bench.specs.Phases.{TakesNext};
-ghost use Rattle.gm_bench.specs.Recovering.{IsAt, LeavesOnly};
-ghost use Rattle.gm_bench.specs.Standing.{Stands};
+ghost use Rattle.gm_bench.specs.HandedIn.{SettlesLast};
 
 use crate::answer::Answer;
 use crate::bench::Bench;
@@ -61,22 +55,7 @@ impl<S: Alter, H: Shelf> Bench<S, H> {
     /// Settles the last command if it is still to be settled. At rest it does nothing.
     pub fn settle_waiting(&mut self) -> Result<(), BenchFault>
         requires { TakesNext (progress_of self.old) }
-        ensures does { H.honest (shelf_of self.old) → DiskKept S.Store (registry_of self.new)
-            → OnOk result ((away : Image) (v u : World)
-            → Stands S.Store H.Shelf (progress_of self.old)
-            (registry_of self.old) (shelf_of self.old) away v u
-            → IsAt S.Store H.Shelf (registry_of self.new) (shelf_of self.new) away [] [] u u) }
-        ensures leaves { H.honest (shelf_of self.old) → DiskKept S.Store (registry_of self.new)
-            → (away : Image) (v u : World)
-            → Stands S.Store H.Shelf (progress_of self.old)
-            (registry_of self.old) (shelf_of self.old) away v u
-            → LeavesOnly S.Store H.Shelf (registry_of self.old) (registry_of self.new)
-            (shelf_of self.old) (shelf_of self.new) away v u }
-        ensures phase { OnOk result (progress_of self.new ≡ Progress.Ready) }
-        ensures rests { progress_of self.old ≡ Progress.Ready
-            → OnErr result ⊥ × (self.new ≡ self.old) }
-        ensures settles { Settles S.Store self.old self.new result }
-        ensures closes { ClosesOnFault self.old self.new result }
+        ensures { SettlesLast S.Store H.Shelf self.old self.new result }
     {
         match self.phase() {
             Phase::Ready => Ok(()),

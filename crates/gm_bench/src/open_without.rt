@@ -1,10 +1,7 @@
 //! The opening of a bench without a provider whose image is gone for good.
 
-ghost use Rattle.std.specs.Prelude.{◌≡◌, false, IfOk, IfErr, MatchResult};
-ghost use Rattle.gm_registry.specs.Opening.{IsForeign};
-ghost use Rattle.gm_registry.specs.Registry.{DiskKept, IsOpen, LeavesAlone, stored};
-ghost use Rattle.gm_bench.specs.Calls.{Keep};
-ghost use Rattle.gm_bench.specs.GivingUp.{GivesUp, IsOpenedWithout, IsUnopenedWithout, shelf_behind, store_behind};
+ghost use Rattle.std.specs.Prelude.{◌≡◌, false, IfOk, IfErr};
+ghost use Rattle.gm_bench.specs.GivingUp.{GivesNoOthersUp, GivingUpKeeps, GivingUpLeaves, IsOpenedWithout, IsUnopenedWithout};
 
 use crate::answer::Answer;
 use crate::bench::{Bench, OpenFault};
@@ -51,23 +48,13 @@ impl<S: Alter, H: Shelf> Bench<S, H> {
         key: &str,
     ) -> Result<Without<S, H>, OpenFault<S, H>>
         requires { store.in_transaction ≡ false }
-        ensures leaves { H.honest shelf → IsOpen S.Store store → MatchResult result
-            (λ it. DiskKept S.Store (store_behind it) → GivesUp S.Store H.Shelf
-            store shelf key.now provider (store_behind it) (shelf_behind it))
-            (λ e. DiskKept S.Store e.store → GivesUp S.Store H.Shelf
-            store shelf key.now provider e.store e.shelf) }
-        // Neither medium of a store with other tables is touched.
-        ensures foreign { IsOpen S.Store store → IsForeign (stored S.Store store)
-            → MatchResult result (λ it. DiskKept S.Store (store_behind it) → ⊥)
-            (λ e. DiskKept S.Store e.store → LeavesAlone S.Store store e.store
-            × (e.shelf ≡ shelf)) }
+        ensures leaves { GivingUpLeaves S.Store H.Shelf store shelf key.now provider result }
+        ensures foreign { GivesNoOthersUp S.Store H.Shelf store shelf result }
         ensures opened { IfOk result
             (IsOpenedWithout S.Store H.Shelf store shelf key.now provider) }
         ensures unopened { IfErr result
             (IsUnopenedWithout S.Store H.Shelf store shelf key.now provider) }
-        ensures keep { MatchResult result
-            (λ it. Keep S.Store H.Shelf store (store_behind it) shelf (shelf_behind it))
-            (λ e. Keep S.Store H.Shelf store e.store shelf e.shelf) }
+        ensures keep { GivingUpKeeps S.Store H.Shelf store shelf result }
     {
         let registry = match Registry::open(store) {
             Ok(registry) => registry,

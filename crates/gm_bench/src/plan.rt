@@ -1,29 +1,15 @@
 //! What the rules answer to a command.
 
-ghost use Rattle.std.specs.Prelude.{◌≡◌, ◌<◌, ◌≤◌, ℕ, List, length, IfOk, IfErr, IsErrOf, nat_le};
-ghost use Rattle.gm_metadata.specs.Images.{Image, Sizes};
-ghost use Rattle.gm_state.specs.Rows.{Tables};
+ghost use Rattle.std.specs.Prelude.{◌≡◌, ℕ, List, IfOk, IfErr, IsErrOf, nat_le};
 ghost use Rattle.gm_state.specs.Records.{Records, IsState};
-ghost use Rattle.gm_state.specs.World.{World};
 ghost use Rattle.gm_changes.specs.Decides.{changed_by};
-ghost use Rattle.gm_refusals.specs.PartOf.{IsPartOf, IsPartToDecide};
-ghost use Rattle.gm_refusals.specs.Seen.{seen_in};
-ghost use Rattle.gm_rules.specs.Itself.{IsItself};
-ghost use Rattle.gm_commands.specs.Commands.{CommandFits};
-ghost use Rattle.gm_registry.specs.Parts.{IsPartFor};
-ghost use Rattle.gm_refusals.specs.WorldFacts.{AreFacts, needed_by};
-ghost use Rattle.gm_rows.specs.ReadableTables.{AreRecordsOf};
-ghost use Rattle.gm_registry.specs.Registry.{DiskKept, HasTables, Reads};
-ghost use Rattle.gm_registry.specs.Replies.{count_of};
+ghost use Rattle.gm_refusals.specs.PartOf.{IsPartOf};
+ghost use Rattle.gm_refusals.specs.WorldFacts.{needed_by};
 ghost use Rattle.gm_bench.specs.Faults.{IsOfCall};
-ghost use Rattle.gm_bench.specs.Recovering.{IsCarriedOut};
-ghost use Rattle.gm_bench.specs.Accepting.{left_by};
-ghost use Rattle.gm_bench.specs.declared.phase.Waiting.{Waiting};
-ghost use Rattle.gm_state.specs.declared.intents.Intent.{Intent};
-ghost use Rattle.gm_bench.specs.Planning.{IsDecided, IsKnown, IsPartKnown, IsPlanAtHand, IsPlanFitting, IsToDecide};
-ghost use Rattle.gm_bench.specs.ShelfFacts.{IsHonestToAdopt, Tell, TellSizes};
+ghost use Rattle.gm_bench.specs.ShelfFacts.{Tell, TellSizes};
 ghost use Rattle.gm_lists.specs.Ordered.{Has};
-ghost use Rattle.gm_bench.specs.Calls.{Asks, Looks, TellsStore};
+ghost use Rattle.gm_bench.specs.Calls.{Looks};
+ghost use Rattle.gm_bench.specs.Asking.{AsksRules, Counts, DecidesPart, Gathers, ReadsPart};
 
 use crate::adopt_scope::{Compared, adopted_from, compared_with};
 use crate::answer::Work;
@@ -97,24 +83,7 @@ fn decide_on(
     facts: &Facts,
     command: &Command,
 ) -> Result<Result<Planned, Refusal>, BenchFault>
-    ensures decides { IfOk result (λ r. (u : World)
-        → IsPartToDecide part.now (seen_in facts.now) command.now u.state
-        → count ≡ length u.state.mirrors → AreFacts facts.now u command.now
-        → IsDecided u command.now r) }
-    ensures disk { IsErrOf result BenchFault.Disk → ⊥ }
-    ensures not_store { IsErrOf result BenchFault.Store → ⊥ }
-    ensures fault { IfErr result IsOfCall }
-    // The change fits the tables of each state that the part is of.
-    ensures fits { IfOk result (λ r. (t : Tables) (s : Records) → AreRecordsOf t s
-        → IsPartToDecide part.now (seen_in facts.now) command.now s → count ≡ length s.mirrors
-        → CommandFits command.now → IsItself (seen_in facts.now) command.now
-        → IsPlanFitting command.now t r) }
-    ensures readable { IsErrOf result BenchFault.Unreadable → CommandFits command.now
-        → IsState part.now → length part.now.mirrors ≤ count → count ≤ 64
-        → IsItself (seen_in facts.now) command.now → ⊥ }
-    ensures at_hand { IfOk result (λ r. CommandFits command.now
-        → IsState part.now → length part.now.mirrors ≤ count → count ≤ 64
-        → (size : Sizes) → TellSizes facts.now size → IsPlanAtHand size r) }
+    ensures { DecidesPart part.now count facts.now command.now result }
 {
     match decide_part(alloc, part, count, facts, command) {
         Ok(Ok(change)) => {
@@ -129,17 +98,7 @@ fn decide_on(
 impl<S: Alter, H: Shelf> Media<S, H> {
     /// How many commands were accepted. It writes nothing.
     pub(crate) fn accepted(&mut self) -> Result<u64, BenchFault>
-        ensures count { DiskKept S.Store self.new.registry → IfOk result (λ n. (t : Tables)
-            → HasTables S.Store self.old.registry t
-            → (n ≡ count_of t) × HasTables S.Store self.new.registry t) }
-        ensures disk { IsErrOf result BenchFault.Disk → ⊥ }
-        ensures store { TellsStore S.Store self.old.registry self.new.registry result }
-        ensures fault { IfErr result IsOfCall }
-        ensures readable { DiskKept S.Store self.new.registry
-            → IsErrOf result BenchFault.Unreadable → (t : Tables)
-            → HasTables S.Store self.old.registry t → count_of t ≤ 100000 → ⊥ }
-        ensures reads { Reads S.Store self.old.registry self.new.registry }
-        ensures shelf { self.new.shelf ≡ self.old.shelf }
+        ensures { Counts S.Store self.old self.new result (λ n count. n ≡ count) }
     {
         match self.registry.accepted() {
             Ok(count) => Ok(count),
@@ -149,17 +108,7 @@ impl<S: Alter, H: Shelf> Media<S, H> {
 
     /// Whether as many commands were accepted as there may be. It writes nothing.
     pub(crate) fn is_full(&mut self) -> Result<bool, BenchFault>
-        ensures told { DiskKept S.Store self.new.registry → IfOk result (λ full. (t : Tables)
-            → HasTables S.Store self.old.registry t
-            → (full ≡ nat_le 100000 (count_of t)) × HasTables S.Store self.new.registry t) }
-        ensures disk { IsErrOf result BenchFault.Disk → ⊥ }
-        ensures store { TellsStore S.Store self.old.registry self.new.registry result }
-        ensures fault { IfErr result IsOfCall }
-        ensures readable { DiskKept S.Store self.new.registry
-            → IsErrOf result BenchFault.Unreadable → (t : Tables)
-            → HasTables S.Store self.old.registry t → count_of t ≤ 100000 → ⊥ }
-        ensures reads { Reads S.Store self.old.registry self.new.registry }
-        ensures shelf { self.new.shelf ≡ self.old.shelf }
+        ensures { Counts S.Store self.old self.new result (λ full n. full ≡ nat_le 100000 n) }
     {
         let count = self.accepted()?;
         Ok(u64::from(MAX_COMMANDS) <= count)
@@ -173,18 +122,7 @@ impl<S: Alter, H: Shelf> Media<S, H> {
         command: &Command,
         mids: &[u32],
     ) -> Result<Part, BenchFault>
-        ensures part { DiskKept S.Store self.new.registry
-            → IfOk result (λ r. (t : Tables) (s : Records)
-            → HasTables S.Store self.old.registry t → AreRecordsOf t s
-            → IsPartFor s command.now mids.now r × HasTables S.Store self.new.registry t) }
-        ensures disk { IsErrOf result BenchFault.Disk → ⊥ }
-        ensures store { TellsStore S.Store self.old.registry self.new.registry result }
-        ensures fault { IfErr result IsOfCall }
-        ensures readable { DiskKept S.Store self.new.registry
-            → IsErrOf result BenchFault.Unreadable → (t : Tables) (s : Records)
-            → HasTables S.Store self.old.registry t → AreRecordsOf t s → ⊥ }
-        ensures reads { Reads S.Store self.old.registry self.new.registry }
-        ensures shelf { self.new.shelf ≡ self.old.shelf }
+        ensures { ReadsPart S.Store self.old self.new result command.now mids.now }
     {
         match self.registry.part(alloc, command, mids) {
             Ok(part) => Ok(part),
@@ -240,23 +178,7 @@ impl<S: Alter, H: Shelf> Media<S, H> {
         command: &Command,
         watch: &mut W,
     ) -> Result<Gathered, BenchFault>
-        ensures known { H.honest self.old.shelf → DiskKept S.Store self.new.registry
-            → IfOk result (λ r. (away : Image) (ts : List Intent) (bytes : List (List ℕ))
-            (v u : World) → (at : IsCarriedOut S.Store H.Shelf self.old.registry
-            self.old.shelf away ts bytes v u)
-            → IsKnown u command.now r × HasTables S.Store self.new.registry at.tables) }
-        ensures serves { DiskKept S.Store self.new.registry
-            → IfOk result (λ r. (t : Tables) (s : Records)
-            → HasTables S.Store self.old.registry t → AreRecordsOf t s
-            → IsToDecide H.Shelf self.old.shelf command.now r
-            × HasTables S.Store self.new.registry t
-            × (IsHonestToAdopt H.Shelf self.old.shelf command.now
-            → IsPartKnown s command.now r)) }
-        ensures store { TellsStore S.Store self.old.registry self.new.registry result }
-        ensures readable { DiskKept S.Store self.new.registry
-            → IsErrOf result BenchFault.Unreadable → (t : Tables) (s : Records)
-            → HasTables S.Store self.old.registry t → AreRecordsOf t s → ⊥ }
-        ensures asks { Asks S.Store H.Shelf self.old self.new result }
+        ensures { Gathers S.Store H.Shelf self.old self.new result command.now }
     {
         let providers = adopted_from(command);
         let first = self.look_at(alloc, &None, providers, watch)?;
@@ -270,35 +192,15 @@ impl<S: Alter, H: Shelf> Media<S, H> {
         Ok(Gathered { part, facts })
     }
 
-    /// What the rules answer, with what is carried out once that is accepted. It writes nothing. The
-    /// watch is told how far data are compared.
+    /// What the rules answer, with what is carried out once that is accepted. It writes nothing.
+    /// The watch is told how far data are compared.
     pub(crate) fn ask<W: Watch>(
         &mut self,
         alloc: Global,
         command: &Command,
         watch: &mut W,
     ) -> Result<Result<Planned, Refusal>, BenchFault>
-        ensures decides { H.honest self.old.shelf → DiskKept S.Store self.new.registry
-            → IfOk result (λ r. (away : Image) (ts : List Intent) (bytes : List (List ℕ))
-            (v u : World) → (at : IsCarriedOut S.Store H.Shelf self.old.registry
-            self.old.shelf away ts bytes v u)
-            → IsDecided u command.now r × HasTables S.Store self.new.registry at.tables) }
-        ensures at_hand { DiskKept S.Store self.new.registry
-            → IfOk result (λ r. (t : Tables) (s : Records)
-            → HasTables S.Store self.old.registry t → AreRecordsOf t s
-            → HasTables S.Store self.new.registry t
-            × (CommandFits command.now → IsPlanAtHand (H.size self.old.shelf) r)) }
-        ensures fits { DiskKept S.Store self.new.registry
-            → IfOk result (λ r. (t : Tables) (s : Records)
-            → HasTables S.Store self.old.registry t → AreRecordsOf t s → CommandFits command.now
-            → IsHonestToAdopt H.Shelf self.old.shelf command.now → (waiting : Waiting)
-            → IsPlanFitting command.now (left_by waiting t) r) }
-        ensures store { TellsStore S.Store self.old.registry self.new.registry result }
-        ensures readable { DiskKept S.Store self.new.registry
-            → IsErrOf result BenchFault.Unreadable → (t : Tables) (s : Records)
-            → HasTables S.Store self.old.registry t → AreRecordsOf t s → CommandFits command.now
-            → IsHonestToAdopt H.Shelf self.old.shelf command.now → ⊥ }
-        ensures asks { Asks S.Store H.Shelf self.old self.new result }
+        ensures { AsksRules S.Store H.Shelf self.old self.new result command.now }
     {
         let known = self.gather(alloc, command, watch)?;
         let part = &known.part;

@@ -1,18 +1,6 @@
 //! The opening of a bench.
 
-ghost use Rattle.std.specs.Prelude.{◌≡◌, ◌<◌, ℕ, List, [], length, IfOk, OnOk, IsErrOf};
-ghost use Rattle.gm_metadata.specs.Images.{Image};
-ghost use Rattle.gm_state.specs.declared.intents.Intent.{Intent};
-ghost use Rattle.gm_state.specs.Rows.{Tables};
-ghost use Rattle.gm_state.specs.World.{World};
-ghost use Rattle.gm_rows.specs.ReadableTables.{AreTablesOf};
-ghost use Rattle.gm_registry.specs.Registry.{DiskKept, HasTables};
-ghost use Rattle.gm_bench.specs.Faults.{IsOfMedia, IsOfOpening};
-ghost use Rattle.gm_bench.specs.Leading.{AllLead};
-ghost use Rattle.gm_bench.specs.Presence.{AreAtHand};
-ghost use Rattle.gm_bench.specs.Recovering.{Cover, IsAt, IsFound, LeavesOnly};
-ghost use Rattle.gm_bench.specs.Calls.{Finishes, Keep, TellsStore};
-ghost use Rattle.gm_bench.specs.Opened.{ChecksImages, LoadsOnly, StaysBefore, TellsOfTables};
+ghost use Rattle.gm_bench.specs.CarryingOut.{FinishesFound, FinishesIntents, LoadsTables, TakesUp};
 
 use crate::fault::BenchFault;
 use crate::media::Media;
@@ -31,27 +19,8 @@ impl<S: Alter, H: Shelf> Media<S, H> {
         intents: &[Intent],
         bytes: &[[u8; 512]],
     ) -> Result<(), BenchFault>
-        ensures moments { H.honest self.old.shelf → (away : Image) (u w : World)
-            → (at : IsAt S.Store H.Shelf self.old.registry self.old.shelf away
-            intents.now bytes.now u w)
-            → Cover part.now w.state intents.now
-            → AllLead at.tables intents.now bytes.now (H.size self.old.shelf) away
-            ((H.view self.new.shelf).left_since (H.view self.old.shelf).moment) u w }
-        ensures leaves { H.honest self.old.shelf → DiskKept S.Store self.new.registry
-            → (away : Image) (u w : World)
-            → IsAt S.Store H.Shelf self.old.registry self.old.shelf away intents.now bytes.now u w
-            → Cover part.now w.state intents.now
-            → LeavesOnly S.Store H.Shelf self.old.registry self.new.registry
-            self.old.shelf self.new.shelf away u w }
-        ensures done { H.honest self.old.shelf → DiskKept S.Store self.new.registry
-            → OnOk result ((away : Image) (u w : World)
-            → IsAt S.Store H.Shelf self.old.registry self.old.shelf away intents.now bytes.now u w
-            → Cover part.now w.state intents.now
-            → IsAt S.Store H.Shelf self.new.registry self.new.shelf away [] [] w w) }
-        ensures disk { AreAtHand (H.size self.old.shelf) intents.now
-            → IsErrOf result BenchFault.Disk
-            → (H.view self.old.shelf).faults < (H.view self.new.shelf).faults }
-        ensures finishes { Finishes S.Store H.Shelf self.old self.new IsOfMedia result }
+        ensures { FinishesIntents S.Store H.Shelf self.old self.new result part.now intents.now
+            bytes.now }
     {
         self.apply(part, intents, bytes)?;
         self.settle()
@@ -59,17 +28,7 @@ impl<S: Alter, H: Shelf> Media<S, H> {
 
     /// All that the registry holds. It writes nothing.
     pub(crate) fn load(&mut self, alloc: Global) -> Result<Loaded, BenchFault>
-        ensures says { H.honest self.old.shelf → DiskKept S.Store self.new.registry
-            → IfOk result (λ l. (away : Image) (ts : List Intent) (bytes : List (List ℕ))
-            (u w : World)
-            → (at : IsFound S.Store H.Shelf self.old.registry self.old.shelf away ts bytes u w)
-            → (l.state ≡ w.state) × (l.intents.items ≡ ts) × (l.bytes.items ≡ bytes)
-            × HasTables S.Store self.new.registry at.tables) }
-        ensures loaded { DiskKept S.Store self.new.registry
-            → IfOk result (λ l. (t : Tables) → HasTables S.Store self.old.registry t
-            → AreTablesOf t l.state l.intents.items l.bytes.items
-            × HasTables S.Store self.new.registry t) }
-        ensures loads { LoadsOnly S.Store self.old self.new result }
+        ensures { LoadsTables S.Store H.Shelf self.old self.new result }
     {
         match self.registry.load(alloc) {
             Ok(loaded) => Ok(loaded),
@@ -84,30 +43,8 @@ impl<S: Alter, H: Shelf> Media<S, H> {
         intents: &[Intent],
         bytes: &[[u8; 512]],
     ) -> Result<(), BenchFault>
-        ensures moments { H.honest self.old.shelf → (away : Image) (u w : World)
-            → (at : IsFound S.Store H.Shelf self.old.registry self.old.shelf away
-            intents.now bytes.now u w)
-            → state.now ≡ w.state
-            → AllLead at.tables intents.now bytes.now (H.size self.old.shelf) away
-            ((H.view self.new.shelf).left_since (H.view self.old.shelf).moment) u w }
-        ensures leaves { H.honest self.old.shelf → DiskKept S.Store self.new.registry
-            → (away : Image) (u w : World)
-            → IsFound S.Store H.Shelf self.old.registry self.old.shelf away intents.now
-            bytes.now u w
-            → state.now ≡ w.state
-            → LeavesOnly S.Store H.Shelf self.old.registry self.new.registry
-            self.old.shelf self.new.shelf away u w }
-        ensures done { H.honest self.old.shelf → DiskKept S.Store self.new.registry
-            → OnOk result ((away : Image) (u w : World)
-            → IsFound S.Store H.Shelf self.old.registry self.old.shelf away intents.now
-            bytes.now u w
-            → state.now ≡ w.state
-            → IsAt S.Store H.Shelf self.new.registry self.new.shelf away [] [] w w) }
-        ensures disk { (t : Tables) → AreTablesOf t state.now intents.now bytes.now
-            → IsErrOf result BenchFault.Disk
-            → (H.view self.old.shelf).faults < (H.view self.new.shelf).faults }
-        ensures checks { ChecksImages H.Shelf self.old self.new state.now intents.now result }
-        ensures finishes { Finishes S.Store H.Shelf self.old self.new IsOfOpening result }
+        ensures { FinishesFound S.Store H.Shelf self.old self.new result state.now intents.now
+            bytes.now }
     {
         match first_absent(&self.shelf, state, intents) {
             Some(provider) => Err(BenchFault::Absent(provider)),
@@ -117,22 +54,7 @@ impl<S: Alter, H: Shelf> Media<S, H> {
 
     /// Carries out what an earlier run left pending, and answers how many intents it found.
     pub(crate) fn take_up(&mut self, alloc: Global) -> Result<u64, BenchFault>
-        ensures leaves { H.honest self.old.shelf → DiskKept S.Store self.new.registry
-            → (away : Image) (ts : List Intent) (bytes : List (List ℕ)) (u w : World)
-            → IsFound S.Store H.Shelf self.old.registry self.old.shelf away ts bytes u w
-            → LeavesOnly S.Store H.Shelf self.old.registry self.new.registry
-            self.old.shelf self.new.shelf away u w }
-        ensures done { H.honest self.old.shelf → DiskKept S.Store self.new.registry
-            → IfOk result (λ n. (away : Image) (ts : List Intent) (bytes : List (List ℕ))
-            (u w : World)
-            → IsFound S.Store H.Shelf self.old.registry self.old.shelf away ts bytes u w
-            → (n ≡ length ts)
-            × IsAt S.Store H.Shelf self.new.registry self.new.shelf away [] [] w w) }
-        ensures tells { TellsOfTables S.Store H.Shelf self.old self.new result }
-        ensures store { TellsStore S.Store self.old.registry self.new.registry result }
-        ensures before { StaysBefore S.Store self.old self.new result }
-        ensures keep { Keep S.Store H.Shelf self.old.registry self.new.registry
-            self.old.shelf self.new.shelf }
+        ensures { TakesUp S.Store H.Shelf self.old self.new result }
     {
         let loaded = self.load(alloc)?;
         self.check_and_finish(&loaded.state, &loaded.intents, &loaded.bytes)?;

@@ -14,7 +14,7 @@ ghost use Rattle.gm_looks.specs.Unlikes.{IsUnlike};
 ghost use Rattle.gm_refusals.specs.Applies.{is_about};
 ghost use Rattle.gm_bench.specs.Benches.{media_of, progress_of, redone_of, registry_of, shelf_of};
 ghost use Rattle.gm_bench.specs.KeptCommands.{TellsKept};
-ghost use Rattle.gm_bench.specs.Calls.{ClosesOnFault, LooksOn, TellsOfRecords, TellsStore};
+ghost use Rattle.gm_bench.specs.Calls.{ClosesOnFault, LooksOn, TellsOfBoth, TellsOfRecords, TellsStore};
 
 use crate::answer::Kept;
 use crate::bench::Bench;
@@ -97,12 +97,8 @@ impl<S: Alter, H: Shelf> Bench<S, H> {
     /// sector that isn't byte for byte the component's metadata. `Closed` after an earlier fault;
     /// any other fault closes the bench.
     pub fn audit(&mut self, alloc: Global) -> Result<Vec<Label>, BenchFault>
-        // By the records that the registry holds and by what the shelf shows, whoever wrote it.
-        ensures audits { H.honest (shelf_of self.old) → DiskKept S.Store (registry_of self.new)
-            → IfOk result (λ names. (t : Tables) (s : Records)
-            → HasTables S.Store (registry_of self.old) t → AreRecordsOf t s
-            → IsAudit s (H.size (shelf_of self.old)) (H.view (shelf_of self.old)).seen
-            names.items) }
+        ensures audits { TellsOfBoth S.Store H.Shelf self.old self.new result
+            (λ s size seen names. IsAudit s size seen names.items) }
         ensures records { TellsOfRecords S.Store (registry_of self.old) (registry_of self.new)
             result }
         ensures looks { LooksOn S.Store H.Shelf self.old self.new result }
@@ -120,12 +116,8 @@ impl<S: Alter, H: Shelf> Bench<S, H> {
     /// names and those on providers that it names, but for those that it gives up as lost. `Closed`
     /// after an earlier fault; any other fault closes the bench.
     pub fn unlike(&mut self, alloc: Global, command: &Command) -> Result<Vec<Unlike>, BenchFault>
-        // By the records that the registry holds and by what the shelf shows, whoever wrote it.
-        ensures unlike { H.honest (shelf_of self.old) → DiskKept S.Store (registry_of self.new)
-            → IfOk result (λ list. (t : Tables) (s : Records)
-            → HasTables S.Store (registry_of self.old) t → AreRecordsOf t s
-            → IsUnlike (is_about command.now) s (H.size (shelf_of self.old))
-            (H.view (shelf_of self.old)).seen list.items) }
+        ensures unlike { TellsOfBoth S.Store H.Shelf self.old self.new result
+            (λ s size seen list. IsUnlike (is_about command.now) s size seen list.items) }
         ensures records { TellsOfRecords S.Store (registry_of self.old) (registry_of self.new)
             result }
         ensures looks { LooksOn S.Store H.Shelf self.old self.new result }
@@ -149,12 +141,8 @@ impl<S: Alter, H: Shelf> Bench<S, H> {
         mirror: Option<Label>,
         watch: &mut W,
     ) -> Result<Vec<Scrubbed>, BenchFault>
-        // By the records that the registry holds and by what the shelf shows, whoever wrote it.
-        ensures scrubs { H.honest (shelf_of self.old) → DiskKept S.Store (registry_of self.new)
-            → IfOk result (λ list. (t : Tables) (s : Records)
-            → HasTables S.Store (registry_of self.old) t → AreRecordsOf t s
-            → IsScrub s (H.size (shelf_of self.old)) (H.view (shelf_of self.old)).seen mirror
-            list.items) }
+        ensures scrubs { TellsOfBoth S.Store H.Shelf self.old self.new result
+            (λ s size seen list. IsScrub s size seen mirror list.items) }
         ensures records { TellsOfRecords S.Store (registry_of self.old) (registry_of self.new)
             result }
         ensures looks { LooksOn S.Store H.Shelf self.old self.new result }

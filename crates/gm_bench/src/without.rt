@@ -2,26 +2,13 @@
 //! by a `lost` of it, in the transaction that takes out what is pending there; the rest is carried
 //! out as by any opening.
 
-ghost use Rattle.std.specs.Prelude.{◌≡◌, ◌<◌, ◌≤◌, ◌∷◌, true, ℕ, List, [], None, Some, length, IfOk, IfErr, IsErrOf, string_bytes};
+ghost use Rattle.std.specs.Prelude.{◌≡◌, ◌∷◌, [], IfOk, IfErr, IsErrOf, string_bytes};
 ghost use Rattle.gm_commands.specs.declared.command.Command.TheVariants.{Lost};
-ghost use Rattle.gm_commands.specs.Commands.{CommandFits, is_key, words_of};
-ghost use Rattle.gm_lists.specs.Ordered.{Has};
-ghost use Rattle.gm_state.specs.declared.intents.Intent.{Intent};
-ghost use Rattle.gm_state.specs.declared.records.Component.{Component};
 ghost use Rattle.gm_state.specs.Records.{IsState};
-ghost use Rattle.gm_state.specs.Rows.{HoldRecords, Tables};
-ghost use Rattle.gm_state.specs.Lookups.{component_of};
-ghost use Rattle.gm_state.specs.World.{Answered, World, present};
-ghost use Rattle.gm_refusals.specs.WorldFacts.{seen_of};
-ghost use Rattle.gm_changes.specs.Decides.{Decides, changed_by};
-ghost use Rattle.gm_registry.specs.Registry.{DiskKept, HasTables, Reads};
-ghost use Rattle.gm_registry.specs.Replies.{AreWrittenUnder, IsFree, count_of};
-ghost use Rattle.gm_rows.specs.ReadableTables.{AreRecordsOf};
-ghost use Rattle.gm_bench.specs.Calls.{TellsStore};
+ghost use Rattle.gm_changes.specs.Decides.{changed_by};
 ghost use Rattle.gm_bench.specs.Faults.{IsOfMedia, IsOfRegistry};
-ghost use Rattle.gm_bench.specs.GivingUp.{OnlyLooksUp};
-ghost use Rattle.gm_bench.specs.Planning.{IsFitting};
-ghost use Rattle.gm_bench.specs.Without.{AreOfWorld, CanBeCommitted, IsJudged, IsRedirected, StayReadableBehind, StaysReadable};
+ghost use Rattle.gm_bench.specs.Without.{IsRedirected};
+ghost use Rattle.gm_bench.specs.Judging.{Judges, JudgesComponent, JudgesFree, RulesOnLoss};
 
 use crate::fault::BenchFault;
 use crate::loss::{Judged, LossRefusal, are_of_loss, loss_with, next_source};
@@ -65,21 +52,7 @@ impl<S: Alter, H: Shelf> Media<S, H> {
         state: &State,
         command: &Command,
     ) -> Result<Result<Change, Refusal>, AllocError>
-        ensures decides { IfOk result (λ r. (w : World) (n p : List ℕ)
-            → state.now ≡ w.state → present w ≡ H.size self.now.shelf
-            → command.now ≡ Lost n (p ∷ []) → Decides w.state (seen_of w) command.now r) }
-        ensures state { IfOk result (λ r. IsState state.now → CommandFits command.now
-            → (n p : List ℕ) → command.now ≡ Lost n (p ∷ [])
-            → IfOk r (λ ch. IsState (changed_by ch state.now))) }
-        ensures again { IfOk result (λ r. (k : Component) (p : List ℕ)
-            → command.now ≡ Lost k.mirror (p ∷ []) → component_of state.now p ≡ Some k
-            → CommandFits command.now → IsState state.now
-            → IfOk r (StayReadableBehind state.now p)) }
-        // The change fits the tables of the records.
-        ensures fits { IfOk result (λ r. (t : Tables) (n p : List ℕ) → AreRecordsOf t state.now
-            → CommandFits command.now → command.now ≡ Lost n (p ∷ [])
-            → IfOk r (λ ch. IsFitting ch (words_of command.now) t
-            × (length ch.intents ≤ 17))) }
+        ensures { RulesOnLoss state.now (H.size self.now.shelf) command.now result }
     {
         let names = needed(alloc, state, command)?;
         let facts = sizes_of(alloc, &self.shelf, &names)?;
@@ -135,20 +108,8 @@ impl<S: Alter, H: Shelf> Media<S, H> {
         bytes: &[[u8; 512]],
         component: &Component,
     ) -> Result<Judged, BenchFault>
-        ensures judged { IfOk result (λ j. (w : World) (key p : List ℕ)
-            → AreOfWorld state.now (H.size self.now.shelf) w
-            → component.now.provider ≡ p → component_of w.state p ≡ Some component.now
-            → is_key key ≡ true → ((a : Answered) → Has w.answered a → a.key ≡ key → ⊥)
-            → length w.answered < 100000 → IsJudged w intents.now bytes.now key p j) }
-        ensures readable { IsErrOf result BenchFault.Unreadable → IsState state.now → ⊥ }
-        ensures again { IfOk result (λ j. component_of state.now component.now.provider
-            ≡ Some component.now → IsState state.now → StaysReadable state.now intents.now bytes.now
-            j) }
-        ensures fits { IfOk result (λ j. (key : List ℕ) (t : Tables) → AreRecordsOf t state.now
-            → is_key key ≡ true → IsFree t key → count_of t < 100000
-            → CanBeCommitted key intents.now t j) }
-        ensures fault { IfErr result IsOfRegistry }
-        ensures not_store { IsErrOf result BenchFault.Store → ⊥ }
+        ensures { JudgesComponent state.now (H.size self.now.shelf) intents.now bytes.now
+            component.now result }
     {
         let command = loss_of(alloc, component)?;
         let Ok(words) = words_of(alloc, &command) else {
@@ -170,26 +131,8 @@ impl<S: Alter, H: Shelf> Media<S, H> {
         bytes: &[[u8; 512]],
         provider: Label,
     ) -> Result<Judged, BenchFault>
-        ensures judged { DiskKept S.Store self.new.registry
-            → IfOk result (λ j. (w : World) (key : List ℕ) (t : Tables)
-            → AreOfWorld state.now (H.size self.old.shelf) w → HoldRecords w t
-            → HasTables S.Store self.old.registry t → is_key key ≡ true → IsFree t key
-            → IsJudged w intents.now bytes.now key provider j
-            × HasTables S.Store self.new.registry t) }
-        ensures readable { DiskKept S.Store self.new.registry
-            → IsErrOf result BenchFault.Unreadable → (t : Tables)
-            → HasTables S.Store self.old.registry t → count_of t ≤ 100000 → ⊥ }
-        ensures again { DiskKept S.Store self.new.registry
-            → IfOk result (λ j. (t : Tables) → HasTables S.Store self.old.registry t
-            → HasTables S.Store self.new.registry t × StaysReadable state.now intents.now bytes.now
-            j) }
-        ensures fits { DiskKept S.Store self.new.registry
-            → IfOk result (λ j. (key : List ℕ) (t : Tables)
-            → HasTables S.Store self.old.registry t → AreRecordsOf t state.now
-            → is_key key ≡ true → IsFree t key → CanBeCommitted key intents.now t j) }
-        ensures store { TellsStore S.Store self.old.registry self.new.registry result }
-        ensures reads { Reads S.Store self.old.registry self.new.registry }
-        ensures looks { OnlyLooksUp S.Store self.old self.new result }
+        ensures { JudgesFree S.Store H.Shelf self.old self.new state.now intents.now bytes.now
+            provider result }
     {
         if self.is_full()? {
             return Ok(Judged::refused(CallRefusal::NoRoom));
@@ -210,25 +153,8 @@ impl<S: Alter, H: Shelf> Media<S, H> {
         provider: Label,
         key: &str,
     ) -> Result<Judged, BenchFault>
-        ensures judged { DiskKept S.Store self.new.registry
-            → IfOk result (λ j. (w : World) (t : Tables)
-            → AreOfWorld state.now (H.size self.old.shelf) w → HoldRecords w t
-            → HasTables S.Store self.old.registry t
-            → IsJudged w intents.now bytes.now key.now provider j
-            × HasTables S.Store self.new.registry t) }
-        ensures readable { DiskKept S.Store self.new.registry
-            → IsErrOf result BenchFault.Unreadable → (t : Tables)
-            → HasTables S.Store self.old.registry t → count_of t ≤ 100000
-            → AreWrittenUnder key.now t → ⊥ }
-        ensures again { DiskKept S.Store self.new.registry
-            → IfOk result (λ j. (t : Tables) → HasTables S.Store self.old.registry t
-            → HasTables S.Store self.new.registry t × StaysReadable state.now intents.now bytes.now
-            j) }
-        ensures fits { DiskKept S.Store self.new.registry → IfOk result (λ j. (t : Tables)
-            → HasTables S.Store self.old.registry t → AreRecordsOf t state.now
-            → CanBeCommitted key.now intents.now t j) }
-        ensures store { TellsStore S.Store self.old.registry self.new.registry result }
-        ensures looks { OnlyLooksUp S.Store self.old self.new result }
+        ensures { Judges S.Store H.Shelf self.old self.new state.now intents.now bytes.now
+            provider result key.now }
     {
         if !is_key(key) {
             return Ok(Judged::refused(CallRefusal::NoKey));

@@ -30,7 +30,7 @@ use Rattle.gm_rows.specs.Rows.{about_numbered}
 use Rattle.gm_rows.specs.Schema.{about, patches, first_schema, registry_schema}
 use Rattle.gm_rows.specs.Statements.{drop_about_text}
 use Rattle.gm_rows.specs.Texts.{patches_text}
-use Rattle.gm_registry.specs.Opening.{IsBeingMade, IsFirstInside}
+use Rattle.gm_registry.specs.Opening.{HasAbout, IsBeingMade, IsFirstInside}
 use Rattle.gm_registry.proofs.ChangedTables.{idle}
 use Rattle.gm_registry.proofs.CreatableTables.{makes_patches}
 use Rattle.gm_registry.proofs.Failures.{never, told}
@@ -114,10 +114,10 @@ about_dropped rows first old new count was h =
 
 pub at_dropped : (old new : State) (x : Result ℕ Error)
     → (IsTrue old.in_transaction → ExecutesInside 0 drop_about_text [] old new x)
-    → OnOk x ((rows : Trees) (first : Database)
-    → IsBeingMade (about_numbered 1 ∷ []) rows first old → IsBeingMade [] rows first new)
+    → OnOk x ((over : Trees × Database) → HasAbout (about_numbered 1 ∷ []) over old
+    → HasAbout [] over new)
 at_dropped old new (Ok count) h =
-    λ rows first was. about_dropped rows first old new count was (h (rw was.inside))
+    λ over was. about_dropped over.0 over.1 old new count was (h (rw was.inside))
 at_dropped old new (Err e) h = tt
 
 about_whole : is_all_of drop_about_text 0 (understood registry_schema drop_about_text) ≡ true
@@ -153,11 +153,11 @@ drop_stops rows first s text stop was does =
 
 pub drop_fails : (old new : State) (x : Result ℕ Error)
     → (IsTrue old.in_transaction → ExecutesInside 0 drop_about_text [] old new x)
-    → OnOther x ((rows : Trees) (first : Database)
-    → IsBeingMade (about_numbered 1 ∷ []) rows first old → Failed old new)
+    → OnOther x ((over : Trees × Database) → HasAbout (about_numbered 1 ∷ []) over old
+    → Failed old new)
 drop_fails old new (Ok count) h = tt
-drop_fails old new (Err e) h = λ is rows first was.
+drop_fails old new (Err e) h = λ is over was.
     told old new e (inside_fault registry_schema drop_about_text [] (clear 0 0)
     drop_about_is.command_is drop_about_is.plain about_whole refl refl old new e was.schema_is
-    (λ stop. drop_stops rows first old (statement_of drop_about_text
+    (λ stop. drop_stops over.0 over.1 old (statement_of drop_about_text
     (understood registry_schema drop_about_text)) stop was) was.is_open (h was.inside)) is

@@ -22,6 +22,7 @@ pub mod FittingTables
 pub mod FoundReply
 pub mod Held
 pub mod InTransaction
+pub mod InsideCalls
 pub mod InsideFails
 pub mod Keys
 pub mod LastCommand

@@ -29,7 +29,7 @@ use Rattle.gm_rows.specs.Statements.{put_about_text}
 use Rattle.gm_rows.specs.Schema.{about, mirrors, components, intents, commands, patches, no_schema, with_about, with_mirrors, with_components, with_intents, first_schema, registry_schema}
 use Rattle.gm_rows.specs.Rows.{about_values, mirror_values, component_values, intent_values, command_values, patch_values}
 use Rattle.gm_rows.specs.Tables.{IsInside, no_tables, AreNumbered}
-use Rattle.gm_registry.specs.Opening.{no_rows, IsBeingMade, IsBlank, IsBlankInside, IsInsideOver}
+use Rattle.gm_registry.specs.Opening.{HasAbout, no_rows, IsBeingMade, IsBlank, IsBlankInside, IsInsideOver}
 use Rattle.gm_registry.proofs.TextMeanings.{Defines, about_is, mirrors_is, components_is, intents_is, commands_is, patches_is, put_about, put_about_is}
 
 -- one CREATE of a table that the text defines
@@ -141,10 +141,10 @@ about_made rows first old new count was h =
 
 pub at_about : (old new : State) (x : Result ℕ Error)
     → (IsTrue old.in_transaction → ExecutesInside 0 put_about_text [] old new x)
-    → OnOk x ((rows : Trees) (first : Database) → IsBeingMade [] rows first old
-    → IsBeingMade (about_values ∷ []) rows first new)
+    → OnOk x ((over : Trees × Database) → HasAbout [] over old
+    → HasAbout (about_values ∷ []) over new)
 at_about old new (Ok count) h =
-    λ rows first was. about_made rows first old new count was (h (rw was.inside))
+    λ over was. about_made over.0 over.1 old new count was (h (rw was.inside))
 at_about old new (Err e) h = tt
 
 -- with the row of `about`, and no others, the tables hold no record

@@ -36,7 +36,7 @@ use Rattle.gm_rows.specs.Rows.{about_values}
 use Rattle.gm_rows.specs.Schema.{about, registry_schema}
 use Rattle.gm_rows.specs.Statements.{put_about_text}
 use Rattle.gm_rows.specs.declared.fault.StoreFault.TheVariants.{Store}
-use Rattle.gm_registry.specs.Opening.{IsBeingMade, IsInsideOver}
+use Rattle.gm_registry.specs.Opening.{HasAbout, IsBeingMade, IsInsideOver}
 use Rattle.gm_registry.proofs.CreatableTables.{Makes}
 use Rattle.gm_registry.proofs.Failures.{failed_since, told}
 use Rattle.gm_registry.proofs.FittingTables.{apart, only, refers}
@@ -143,11 +143,10 @@ about_whole = refl
 
 pub about_fails : (old new : State) (x : Result ℕ Error)
     → (IsTrue old.in_transaction → ExecutesInside 0 put_about_text [] old new x)
-    → OnOther x ((rows : Trees) (first : Database) → IsBeingMade [] rows first old
-    → Failed old new)
+    → OnOther x ((over : Trees × Database) → HasAbout [] over old → Failed old new)
 about_fails old new (Ok count) h = tt
-about_fails old new (Err e) h = λ is rows first was.
+about_fails old new (Err e) h = λ is over was.
     told old new e (inside_fault registry_schema put_about_text [] put_about put_about_is.command_is
     put_about_is.plain about_whole refl refl old new e was.schema_is
-    (λ stop. about_stops rows first old (statement_of put_about_text
+    (λ stop. about_stops over.0 over.1 old (statement_of put_about_text
     (understood registry_schema put_about_text)) stop was) was.is_open (h was.inside)) is

@@ -1,12 +1,14 @@
 -- Reads one after another, or none.
-use Rattle.std.proofs.Common.{inl, inr, sym, subst, arith}
+use Rattle.std.proofs.Common.{◌≡◌, ◌∙◌, inl, inr, Result, Ok, Err, IsErrAnd, sym, subst, arith}
 use Rattle.sqlite_trees.specs.declared.store.Store.{Ghosts}
 use Rattle.sqlite.specs.Held.{Held, state}
 use Rattle.sqlite.specs.State.{State, HasCleanDisk}
 use Rattle.gm_state.specs.Rows.{Tables}
+use Rattle.gm_rows.specs.declared.fault.StoreFault.{StoreFault}
 use Rattle.gm_registry.specs.Reads as reads
 use Rattle.gm_registry.specs.Registry.{DiskKept, IsOpen, HasTables, IsOurs, HasRead, HaveRead, HasFailed, StoreFailed}
 use Rattle.gm_registry.specs.Reads.{IsOurSchema}
+use Rattle.gm_registry.specs.Tells.{Queries}
 use Rattle.gm_registry.proofs.Failures.{failed_later}
 use Rattle.gm_registry.proofs.ReadsInTurn.{read_then, failed_then, clean_before, tables_stay}
 
@@ -43,3 +45,25 @@ module _ {S : Type 0} (g : Ghosts S) where
       → StoreFailed g a c) (sym same) (λ f. f ours is_open) failed
   some_later a b c (inr first) clean ours is_open failed =
       failed_later IsOurSchema (state g a) (state g b) (state g c) first clean ours is_open failed
+
+-- ---- queries
+
+-- a read after another
+pub and_read : {a b c : State} → reads.HasRead a b → reads.HasRead b c → reads.HasRead a c
+and_read {a} {b} {c} first second = read_then a b c first second
+
+-- a query that failed after reads, and whose error is passed on
+pub then_query_fails : {S A B : Type 0} (g : Ghosts S) {mid new : Held S} {e : StoreFault}
+    {Found : A → Type 0} (old : Held S) (x : Result B StoreFault) (IsFound : B → Type 0)
+    → HasRead g old mid → Queries g mid new {A = A} IsOurSchema (Err e) Found
+    → IsErrAnd x (λ f. f ≡ e) → Queries g old new IsOurSchema x IsFound
+then_query_fails g old (Ok y) IsFound read it err = absurd err
+then_query_fails {S} {A} {B} g {mid} {new} {e} {Found} old (Err f) IsFound read it err = record {
+  rows = λ _. tt;
+  read = tt;
+  failed = failed_then (state g old) (state g mid) (state g new) read it.failed;
+  store = λ clean is ours is_open. failed_later IsOurSchema (state g old) (state g mid)
+      (state g new) read (failed_clean (state g mid) (state g new) it.failed clean) ours is_open
+      (it.store clean (sym err ∙ is));
+  fault = λ is. it.fault (sym err ∙ is);
+}

@@ -1,12 +1,15 @@
 -- What a command and its end make of the tables.
-use Rattle.std.specs.Prelude.{ℕ, ◌+◌, length, List, [], ◌∷◌, ◌++◌, Option, Some, None}
+use Rattle.std.specs.Prelude.{◌≡◌, ℕ, ◌+◌, length, List, [], ◌∷◌, ◌++◌, Option, Some, None}
 use Rattle.gm_state.specs.declared.records.Mirror.{Mirror}
 use Rattle.gm_state.specs.declared.records.Component.{Component}
 use Rattle.gm_state.specs.declared.intents.Intent.{Intent}
 use Rattle.gm_state.specs.declared.intents.Reply.{Reply}
 use Rattle.gm_lists.specs.Ordered.{without}
+use Rattle.gm_state.specs.Records.{Records, IsState}
 use Rattle.gm_state.specs.Rows.{Tables, MirrorRow, ComponentRow, CommandRow, IntentRow, mirror_row, component_row, intent_rows, patch_rows, copied_of, total_of}
-use Rattle.gm_changes.specs.Decides.{Changed}
+use Rattle.gm_changes.specs.Decides.{Changed, changed_by}
+use Rattle.gm_rows.specs.ReadableTables.{HoldState}
+use Rattle.gm_registry.specs.declared.accept.Entry.{Entry}
 use Rattle.gm_registry.specs.declared.intents.Pending.{Pending}
 use Rattle.gm_registry.specs.declared.intents.Pending.TheVariants.{Stays, Goes}
 
@@ -71,16 +74,33 @@ with_records ch t =
     with_components ch.components (with_some_mirror ch.mirror
     (without_some_mirror ch.gone_mirror (without_components ch.gone_components t)))
 
--- the row of a command under its key
-abbrev pub command_row : List ℕ → ℕ → List ℕ → Reply → CommandRow
-command_row key number words reply =
+-- the row of an intent of this kind, by its number
+abbrev pub row_of_kind : ℕ → ℕ → List ℕ → List ℕ → ℕ → ℕ → IntentRow
+row_of_kind kind number provider source first end =
+    record {
+      ord = number;
+      kind = kind;
+      prov = provider;
+      source = source;
+      first_sector = first;
+      end_sector = end;
+    }
+
+-- the row of a command under its key, with the two numbers of its reply
+abbrev pub row_under : List ℕ → ℕ → List ℕ → ℕ → ℕ → CommandRow
+row_under key number words copied of_total =
     record {
       call_key = key;
       seq = number;
       words = words;
-      copied = copied_of reply;
-      of_total = total_of reply;
+      copied = copied;
+      of_total = of_total;
     }
+
+-- the same with its reply
+abbrev pub command_row : List ℕ → ℕ → List ℕ → Reply → CommandRow
+command_row key number words reply =
+    row_under key number words (copied_of reply) (total_of reply)
 
 -- the tables with the change: its records, its intents, numbered from 1, the bytes that they lay,
 -- and the command under its key
@@ -111,3 +131,23 @@ left_of Goes t = settled t
 -- the change with these intents and bytes in place of its own
 abbrev pub with_pending : Changed → List Intent → List (List ℕ) → Changed
 with_pending ch ts bytes = record ch { intents = ts; bytes = bytes }
+
+-- the change of a command as it is written
+abbrev pub changed_in : Entry → Changed
+changed_in e = with_pending e.change.now e.intents.now e.bytes.now
+
+-- the tables with that command under this number
+abbrev pub with_entry : Entry → ℕ → Tables → Tables
+with_entry e number = with_change (changed_in e) e.key.now number e.words.now
+
+-- The tables before and after a change that is accepted under a key.
+pub record HoldsChange (ch : Changed) (key words : List ℕ) (old new : Tables) : Type 0 where
+  -- those of a state hold it with the change
+  pub records : (s : Records) → IsState s → HoldState s old → HoldState (changed_by ch s) new
+  -- its intents come before those that were pending
+  pub intents : new.intents ≡ intent_rows 1 ch.intents ++ old.intents
+  -- and its bytes before theirs
+  pub patches : new.patches ≡ patch_rows ch.bytes ++ old.patches
+  -- the command stands under its key, by the next number
+  pub commands : new.commands
+      ≡ command_row key (length old.commands + 1) words ch.reply ∷ old.commands

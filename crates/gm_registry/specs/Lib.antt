@@ -10,3 +10,4 @@ pub mod Parts
 pub mod Reads
 pub mod Registry
 pub mod Replies
+pub mod Tells

@@ -49,6 +49,10 @@ pub record IsBeingMade (about : List Row) (rows : Trees) (first : Database) (s :
     pub commands : s.now.trees 8 ≡ rows 8
     pub patches : s.now.trees 11 ≡ []
 
+-- the same with these trees and this commit
+abbrev pub HasAbout : List Row → Trees × Database → State → Type 0
+HasAbout about over = IsBeingMade about over.0 over.1
+
 -- trees without a row
 abbrev pub no_rows : Trees
 no_rows tree = []
@@ -105,6 +109,10 @@ HasSomeTables db = HasOurTables db ⊎ IsForeign db
 -- what can be told of a store: that it has no tables, or those of a registry, or others
 abbrev pub IsKnownStore : Trees → Type 0
 IsKnownStore db = IsEmpty db ⊎ HasSomeTables db
+
+-- it sees tables of one of them
+abbrev pub SeesOneOfThem : State → Type 0
+SeesOneOfThem s = IsOfRegistry s.now.schema
 
 -- ---- a store of the first schema that is carried over
 

@@ -9,6 +9,7 @@ use Rattle.sqlite.specs.Held.{Held, state}
 use Rattle.sqlite.specs.State.{HasCleanDisk, Survives}
 use Rattle.sqlite.specs.State as sql
 use Rattle.sqlite.specs.declared.error.Error.{Error}
+use Rattle.sqlite.specs.declared.transaction.Transaction.{Transaction}
 use Rattle.sqlite_rows.specs.Reads as rows
 use Rattle.gm_state.specs.declared.intents.Intent.{Intent}
 use Rattle.gm_state.specs.Records.{Records}
@@ -162,3 +163,40 @@ module _ {S : Type 0} (g : Ghosts S) where
           → HasSaved new t)
       pub left : (t : Tables) → HasTables old t → MayLeave old new (after t)
       pub clean : WasClean old new
+
+  -- ---- within a transaction
+
+  -- A call that makes these of the tables, if the rows and the tables fit what it asks for. It
+  -- numbers at most so many rows of a table.
+  pub record ChangesInside {X : Type 0} (old new : Transaction S) (result : Result X Error)
+      (after : Tables → Tables) (Fits : Trees → Tables → Type 0) (count : ℕ) : Type 0 where
+    -- it is a transaction of the same connection
+    pub same_reference : new.conn.ghost_name ≡ old.conn.ghost_name
+    -- at Ok the tables are these
+    pub put : MakesInside old.conn.now new.conn.now result after
+    -- it fails only for want of memory, or if the store did, over what fits
+    pub fails : FailsInside old.conn.now new.conn.now result Fits
+    -- at Ok there is room for all but so many rows of those for which there was
+    pub numbers : NumbersInside old.conn.now new.conn.now result count
+    -- nothing was committed
+    pub kept : KeepsCommit old.conn.now new.conn.now
+    -- a crash finds nothing new
+    pub survives : LeavesNothingNew old.conn.now new.conn.now
+
+  -- A transaction that makes these of tables such as are given, if the rows and the tables fit.
+  pub record WritesGiven {X : Type 0} (old new : Held S) (result : Result X Error)
+      (Given : Tables → Type 0) (after : Tables → Tables) (Fits : Trees → Tables → Type 0) : Type 0
+    where
+      -- at Ok the tables are these
+      pub done : DiskKept new → OnOk result ((t : Tables) → HasTables old t → Given t
+          → HasTables new (after t))
+      -- at Err they are as before, while it is open
+      pub refused : DiskKept new → OnErr result ((t : Tables) → HasTables old t → Given t
+          → IsOpen new → HasTables new t)
+      -- it fails only for want of memory, or if the store did, over what fits
+      pub store : DiskKept new → OnOther result ((t : Tables) → HasTables old t → Given t
+          → Fits (seen old) t → StoreFailed old new)
+      -- a crash finds what it could find before, or these tables
+      pub left : (t : Tables) → HasTables old t → Given t → MayLeave old new (after t)
+      -- whatever the tables were, the store goes on
+      pub survives : Survives (state g old) (state g new) (λ _. Unit {0})

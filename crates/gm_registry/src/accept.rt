@@ -1,17 +1,14 @@
 //! A command's change, with its intents, its bytes and its key, in one transaction; also in place
 //! of what is pending.
 
-ghost use Rattle.std.specs.Prelude.{◌≡◌, ◌≤◌, ◌+◌, ◌↔◌, length, IfOk, OnOk, OnErr, IfSome, IsTrue};
-ghost use Rattle.sqlite.specs.State.{Survives};
-ghost use Rattle.sqlite.specs.Held.{state};
-ghost use Rattle.gm_state.specs.Rows.{Tables, mirror_row};
-ghost use Rattle.gm_registry.specs.Fitting.{HasNoComponents, HasRoom, IsUncounted, TakesMirror};
-ghost use Rattle.gm_registry.specs.FittingChanges.{FitsRecords, FitsTables};
-ghost use Rattle.gm_rows.specs.Faults.{OnOther};
+ghost use Rattle.std.specs.Prelude.{◌≡◌, ◌+◌, ◌↔◌, length, IfSome, IsTrue};
+ghost use Rattle.gm_state.specs.Rows.{mirror_row};
+ghost use Rattle.gm_registry.specs.Fitting.{HasNoComponents, HasRoom, TakesMirror};
+ghost use Rattle.gm_registry.specs.FittingChanges.{rows_in, FitsEntry, FitsRecords, FitsTables};
 ghost use Rattle.gm_state.specs.World.{ReplyFits};
-ghost use Rattle.gm_registry.specs.Replies.{count_of, IsFree};
-ghost use Rattle.gm_registry.specs.Changes.{left_of, with_accepted, with_records, with_change, with_pending, without_some_mirror, with_some_mirror};
-ghost use Rattle.gm_registry.specs.Registry.{DiskKept, IsOpen, HasTables, seen, MayLeave, LeavesNothingNew, KeepsCommit, MakesInside, FailsInside, NumbersInside, StoreFailed, Writes};
+ghost use Rattle.gm_registry.specs.Replies.{count_of};
+ghost use Rattle.gm_registry.specs.Changes.{with_entry, changed_in, left_of, with_accepted, with_records, without_some_mirror, with_some_mirror};
+ghost use Rattle.gm_registry.specs.Registry.{WritesGiven, ChangesInside, Writes};
 ghost use Rattle.gm_registry.specs.Accepting.{Accepts};
 
 use crate::commands::put_command;
@@ -29,14 +26,8 @@ use sqlite::{Alter, Connection, Error, ErrorCode, Transaction};
 
 /// Deletes a mirror if there is a name.
 fn drop_some_mirror<S: Alter>(tx: &mut Transaction<'_, S>, name: Option<Label>) -> Result<(), Error>
-    ensures same_reference { tx.new.conn.ghost_name ≡ tx.old.conn.ghost_name }
-    ensures put { MakesInside S.Store tx.old.conn.now tx.new.conn.now result
-        (without_some_mirror name) }
-    ensures fails { FailsInside S.Store tx.old.conn.now tx.new.conn.now result
-        (λ _ t. IfSome name (λ n. HasNoComponents n t)) }
-    ensures numbers { NumbersInside S.Store tx.old.conn.now tx.new.conn.now result 0 }
-    ensures kept { KeepsCommit S.Store tx.old.conn.now tx.new.conn.now }
-    ensures survives { LeavesNothingNew S.Store tx.old.conn.now tx.new.conn.now }
+    ensures { ChangesInside S.Store tx.old tx.new result (without_some_mirror name)
+        (λ _ t. IfSome name (λ n. HasNoComponents n t)) 0 }
 {
     if let Some(name) = name {
         drop_mirror(tx, name)?;
@@ -49,14 +40,8 @@ fn put_some_mirror<S: Alter>(
     tx: &mut Transaction<'_, S>,
     mirror: Option<Mirror>,
 ) -> Result<(), Error>
-    ensures same_reference { tx.new.conn.ghost_name ≡ tx.old.conn.ghost_name }
-    ensures put { MakesInside S.Store tx.old.conn.now tx.new.conn.now result
-        (with_some_mirror mirror) }
-    ensures fails { FailsInside S.Store tx.old.conn.now tx.new.conn.now result
-        (λ db t. IfSome mirror (λ m. TakesMirror (mirror_row m) db t)) }
-    ensures numbers { NumbersInside S.Store tx.old.conn.now tx.new.conn.now result 1 }
-    ensures kept { KeepsCommit S.Store tx.old.conn.now tx.new.conn.now }
-    ensures survives { LeavesNothingNew S.Store tx.old.conn.now tx.new.conn.now }
+    ensures { ChangesInside S.Store tx.old tx.new result (with_some_mirror mirror)
+        (λ db t. IfSome mirror (λ m. TakesMirror (mirror_row m) db t)) 1 }
 {
     if let Some(mirror) = mirror {
         put_mirror(tx, mirror)?;
@@ -67,15 +52,9 @@ fn put_some_mirror<S: Alter>(
 /// Writes the records of a change. A component refers to its mirror: it goes before it, and comes
 /// after it.
 fn put_records<S: Alter>(tx: &mut Transaction<'_, S>, change: &Change) -> Result<(), Error>
-    ensures same_reference { tx.new.conn.ghost_name ≡ tx.old.conn.ghost_name }
-    ensures put { MakesInside S.Store tx.old.conn.now tx.new.conn.now result
-        (with_records change.now) }
-    ensures fails { FailsInside S.Store tx.old.conn.now tx.new.conn.now result
-        (λ db t. FitsRecords change.now t × HasRoom (length change.now.components + 1) db) }
-    ensures numbers { NumbersInside S.Store tx.old.conn.now tx.new.conn.now result
+    ensures { ChangesInside S.Store tx.old tx.new result (with_records change.now)
+        (λ db t. FitsRecords change.now t × HasRoom (length change.now.components + 1) db)
         (length change.now.components + 1) }
-    ensures kept { KeepsCommit S.Store tx.old.conn.now tx.new.conn.now }
-    ensures survives { LeavesNothingNew S.Store tx.old.conn.now tx.new.conn.now }
 {
     drop_components(tx, change.gone_components())?;
     drop_some_mirror(tx, change.gone_mirror())?;
@@ -83,93 +62,65 @@ fn put_records<S: Alter>(tx: &mut Transaction<'_, S>, change: &Change) -> Result
     put_components(tx, change.components())
 }
 
-/// Writes a change, with these intents and bytes, and its key.
-fn put_change<S: Alter>(
+/// A command as it is written: its change, with these intents and bytes in place of the change's
+/// own, its key and its words.
+#[derive(Clone, Copy)]
+pub(crate) struct Entry<'a> {
+    pub(crate) change: &'a Change,
+    pub(crate) intents: &'a [Intent],
+    pub(crate) bytes: &'a [[u8; 512]],
+    pub(crate) key: &'a str,
+    pub(crate) words: &'a str,
+}
+
+/// Writes a command under its number.
+fn put_entry<S: Alter>(
     tx: &mut Transaction<'_, S>,
-    change: &Change,
-    intents: &[Intent],
-    bytes: &[[u8; 512]],
-    key: &str,
+    entry: &Entry<'_>,
     number: u32,
-    words: &str,
 ) -> Result<(), Error>
-    ensures same_reference { tx.new.conn.ghost_name ≡ tx.old.conn.ghost_name }
-    ensures put { MakesInside S.Store tx.old.conn.now tx.new.conn.now result (with_change
-        (with_pending change.now intents.now bytes.now) key.now number words.now) }
-    ensures fails { FailsInside S.Store tx.old.conn.now tx.new.conn.now result
-        (λ db t. FitsTables (with_pending change.now intents.now bytes.now) key.now words.now t
-        × IsUncounted number t × HasRoom (length change.now.components + 2) db) }
-    ensures kept { KeepsCommit S.Store tx.old.conn.now tx.new.conn.now }
-    ensures survives { LeavesNothingNew S.Store tx.old.conn.now tx.new.conn.now }
+    ensures { ChangesInside S.Store tx.old tx.new result (with_entry entry.now number)
+        (FitsEntry entry.now number) (rows_in entry.now) }
 {
-    put_records(tx, change)?;
-    put_intents(tx, intents)?;
-    put_bytes(tx, bytes)?;
-    put_command(tx, key, number, words, change.reply())?;
+    put_records(tx, entry.change)?;
+    put_intents(tx, entry.intents)?;
+    put_bytes(tx, entry.bytes)?;
+    put_command(tx, entry.key, number, entry.words, entry.change.reply())?;
     Ok(())
 }
 
 /// The same after what becomes of what is pending.
 fn put_over<S: Alter>(
     tx: &mut Transaction<'_, S>,
-    change: &Change,
-    intents: &[Intent],
-    bytes: &[[u8; 512]],
+    entry: &Entry<'_>,
     pending: Pending,
-    key: &str,
     number: u32,
-    words: &str,
 ) -> Result<(), Error>
-    ensures same_reference { tx.new.conn.ghost_name ≡ tx.old.conn.ghost_name }
-    ensures put { MakesInside S.Store tx.old.conn.now tx.new.conn.now result (λ t.
-        with_change (with_pending change.now intents.now bytes.now) key.now number words.now
-        (left_of pending t)) }
-    ensures fails { FailsInside S.Store tx.old.conn.now tx.new.conn.now result (λ db t.
-        FitsTables (with_pending change.now intents.now bytes.now) key.now words.now
-        (left_of pending t)
-        × IsUncounted number t × HasRoom (length change.now.components + 2) db) }
-    ensures kept { KeepsCommit S.Store tx.old.conn.now tx.new.conn.now }
-    ensures survives { LeavesNothingNew S.Store tx.old.conn.now tx.new.conn.now }
+    ensures { ChangesInside S.Store tx.old tx.new result
+        (λ t. with_entry entry.now number (left_of pending t))
+        (λ db t. FitsEntry entry.now number db (left_of pending t)) (rows_in entry.now) }
 {
     drop_pending(tx, pending)?;
-    put_change(tx, change, intents, bytes, key, number, words)
+    put_entry(tx, entry, number)
 }
 
 /// Writes all of that in one transaction.
-fn write_change<S: Alter>(
+fn write_entry<S: Alter>(
     conn: &mut Connection<S>,
-    change: &Change,
-    intents: &[Intent],
-    bytes: &[[u8; 512]],
+    entry: &Entry<'_>,
     pending: Pending,
-    key: &str,
     number: u32,
-    words: &str,
 ) -> Result<(), Error>
-    ensures done { DiskKept S.Store conn.new → OnOk result ((t : Tables)
-        → HasTables S.Store conn.old t → number ≡ count_of t + 1
-        → HasTables S.Store conn.new (with_change (with_pending change.now intents.now bytes.now)
-        key.now number words.now (left_of pending t))) }
-    ensures refused { DiskKept S.Store conn.new
-        → OnErr result ((t : Tables) → HasTables S.Store conn.old t → number ≡ count_of t + 1
-        → IsOpen S.Store conn.new → HasTables S.Store conn.new t) }
-    ensures store { DiskKept S.Store conn.new
-        → OnOther result ((t : Tables) → HasTables S.Store conn.old t → number ≡ count_of t + 1
-        → FitsTables (with_pending change.now intents.now bytes.now) key.now words.now
-        (left_of pending t)
-        → HasRoom (length change.now.components + 2) (seen S.Store conn.old)
-        → StoreFailed S.Store conn.old conn.new) }
-    ensures left { (t : Tables) → HasTables S.Store conn.old t → number ≡ count_of t + 1
-        → MayLeave S.Store conn.old conn.new (with_change
-        (with_pending change.now intents.now bytes.now) key.now number words.now
-        (left_of pending t)) }
-    ensures survives { Survives (state S.Store conn.old) (state S.Store conn.new) (λ _. Unit {0}) }
+    ensures { WritesGiven S.Store conn.old conn.new result (λ t. number ≡ count_of t + 1)
+        (λ t. with_entry entry.now number (left_of pending t))
+        (λ db t. FitsTables (changed_in entry.now) entry.now.key.now entry.now.words.now
+        (left_of pending t) × HasRoom (rows_in entry.now) db) }
 {
     if !conn.is_autocommit() {
         return Err(Error::SqliteFailure(ErrorCode::TransactionState));
     }
     let mut tx = conn.transaction();
-    put_over(&mut tx, change, intents, bytes, pending, key, number, words)?;
+    put_over(&mut tx, entry, pending, number)?;
     tx.commit()
 }
 
@@ -183,29 +134,23 @@ fn is_in_range(reply: Reply) -> bool
     }
 }
 
-/// Accepts a change, with these intents and bytes, under the next number. `Store` if as many
-/// commands as may be were accepted already, or if the numbers of the reply are out of range:
-/// nothing is written then.
+/// Accepts a command under the next number. `Store` if as many commands as may be were accepted
+/// already, or if the numbers of the reply are out of range: nothing is written then.
 pub(crate) fn accept_on<S: Alter>(
     conn: &mut Connection<S>,
-    change: &Change,
-    intents: &[Intent],
-    bytes: &[[u8; 512]],
+    entry: &Entry<'_>,
     pending: Pending,
-    key: &str,
-    words: &str,
 ) -> Result<u64, StoreFault>
-    ensures accepts { Accepts S.Store conn.old conn.new result
-        (with_pending change.now intents.now bytes.now) (left_of pending) key.now words.now }
-    ensures writes { Writes S.Store conn.old conn.new result (λ t.
-        with_accepted (with_pending change.now intents.now bytes.now) key.now words.now
-        (left_of pending t)) }
+    ensures accepts { Accepts S.Store conn.old conn.new result (changed_in entry.now)
+        (left_of pending) entry.now.key.now entry.now.words.now }
+    ensures writes { Writes S.Store conn.old conn.new result (λ t. with_accepted
+        (changed_in entry.now) entry.now.key.now entry.now.words.now (left_of pending t)) }
 {
     let count = accepted_on(conn)?;
-    if count >= MAX_COMMANDS || !is_in_range(change.reply()) {
+    if count >= MAX_COMMANDS || !is_in_range(entry.change.reply()) {
         return Err(StoreFault::Store);
     }
     let number = count + 1;
-    write_change(conn, change, intents, bytes, pending, key, number, words)?;
+    write_entry(conn, entry, pending, number)?;
     Ok(u64::from(number))
 }

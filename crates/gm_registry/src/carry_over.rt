@@ -1,15 +1,14 @@
 //! A registry of the first schema, carried over to the second in one transaction: it gets the table
 //! of bytes, and the number 2 in `about`.
 
-ghost use Rattle.std.specs.Prelude.{◌≡◌, [], ◌∷◌, OnOk, OnErr};
+ghost use Rattle.std.specs.Prelude.{[], ◌∷◌};
 ghost use Rattle.sqlite.specs.Held.{state};
-ghost use Rattle.sqlite.specs.Effect.{Database};
 ghost use Rattle.sqlite.specs.State.{Survives};
-ghost use Rattle.sqlite.specs.Tree.{Trees};
 ghost use Rattle.gm_rows.specs.Faults.{OnOther};
 ghost use Rattle.gm_rows.specs.Rows.{about_numbered, about_values};
-ghost use Rattle.gm_registry.specs.Opening.{IsAsBefore, IsBeingMade, IsCarriedOver, IsFirstInside, SeesFirstRegistry, SeesFirstStore};
-ghost use Rattle.gm_registry.specs.Registry.{DiskKept, IsOpen, IsRegistry, stored, MayCarryOver, LeavesNothingNew, KeepsCommit, StoreFailed};
+ghost use Rattle.gm_registry.specs.Opening.{HasAbout, IsBeingMade, IsFirstInside, SeesFirstRegistry};
+ghost use Rattle.gm_registry.specs.Registry.{DiskKept, KeepsCommit, StoreFailed};
+ghost use Rattle.gm_registry.specs.Opens.{CarriesOver, LeadsInside};
 
 use crate::create::put_about;
 use gm_rows::PATCHES;
@@ -17,48 +16,27 @@ use sqlite::{Alter, Connection, Error, ErrorCode, Transaction};
 
 /// Makes the table of bytes, beside those of the first schema.
 fn create_patches<S: Alter>(tx: &mut Transaction<'_, S>) -> Result<usize, Error>
-    ensures same_reference { tx.new.conn.ghost_name ≡ tx.old.conn.ghost_name }
-    ensures made { DiskKept S.Store tx.new.conn.now
-        → OnOk result ((first : Database) → IsFirstInside first (state S.Store tx.old.conn.now)
-        → IsBeingMade (about_numbered 1 ∷ []) first.trees first
-        (state S.Store tx.new.conn.now)) }
-    ensures fails { DiskKept S.Store tx.new.conn.now
-        → OnOther result ((first : Database) → IsFirstInside first (state S.Store tx.old.conn.now)
-        → StoreFailed S.Store tx.old.conn.now tx.new.conn.now) }
+    ensures leads { LeadsInside S.Store tx.old tx.new result IsFirstInside
+        (λ first. IsBeingMade (about_numbered 1 ∷ []) first.trees first) }
     ensures kept { KeepsCommit S.Store tx.old.conn.now tx.new.conn.now }
-    ensures survives { LeavesNothingNew S.Store tx.old.conn.now tx.new.conn.now }
 {
     tx.execute(PATCHES, &[])
 }
 
 /// Deletes the record of `about` of the first schema.
 fn drop_about<S: Alter>(tx: &mut Transaction<'_, S>) -> Result<usize, Error>
-    ensures same_reference { tx.new.conn.ghost_name ≡ tx.old.conn.ghost_name }
-    ensures made { DiskKept S.Store tx.new.conn.now
-        → OnOk result ((rows : Trees) (first : Database)
-        → IsBeingMade (about_numbered 1 ∷ []) rows first (state S.Store tx.old.conn.now)
-        → IsBeingMade [] rows first (state S.Store tx.new.conn.now)) }
-    ensures fails { DiskKept S.Store tx.new.conn.now
-        → OnOther result ((rows : Trees) (first : Database)
-        → IsBeingMade (about_numbered 1 ∷ []) rows first (state S.Store tx.old.conn.now)
-        → StoreFailed S.Store tx.old.conn.now tx.new.conn.now) }
+    ensures leads { LeadsInside S.Store tx.old tx.new result (HasAbout (about_numbered 1 ∷ []))
+        (HasAbout []) }
     ensures kept { KeepsCommit S.Store tx.old.conn.now tx.new.conn.now }
-    ensures survives { LeavesNothingNew S.Store tx.old.conn.now tx.new.conn.now }
 {
     tx.execute("DELETE FROM about", &[])
 }
 
 /// The table of bytes and the number of the second schema, within a transaction.
 fn carry_tables<S: Alter>(tx: &mut Transaction<'_, S>) -> Result<(), Error>
-    ensures same_reference { tx.new.conn.ghost_name ≡ tx.old.conn.ghost_name }
-    ensures made { DiskKept S.Store tx.new.conn.now
-        → OnOk result ((first : Database) → IsFirstInside first (state S.Store tx.old.conn.now)
-        → IsBeingMade (about_values ∷ []) first.trees first (state S.Store tx.new.conn.now)) }
-    ensures fails { DiskKept S.Store tx.new.conn.now
-        → OnOther result ((first : Database) → IsFirstInside first (state S.Store tx.old.conn.now)
-        → StoreFailed S.Store tx.old.conn.now tx.new.conn.now) }
+    ensures leads { LeadsInside S.Store tx.old tx.new result IsFirstInside
+        (λ first. IsBeingMade (about_values ∷ []) first.trees first) }
     ensures kept { KeepsCommit S.Store tx.old.conn.now tx.new.conn.now }
-    ensures survives { LeavesNothingNew S.Store tx.old.conn.now tx.new.conn.now }
 {
     create_patches(tx)?;
     drop_about(tx)?;
@@ -68,17 +46,10 @@ fn carry_tables<S: Alter>(tx: &mut Transaction<'_, S>) -> Result<(), Error>
 
 /// Carries a registry of the first schema over to the second, in one transaction.
 pub(crate) fn carry_over<S: Alter>(conn: &mut Connection<S>) -> Result<(), Error>
-    ensures done { DiskKept S.Store conn.new
-        → OnOk result (SeesFirstRegistry (state S.Store conn.old) → IsRegistry S.Store conn.new
-        × IsCarriedOver (stored S.Store conn.old) (stored S.Store conn.new)) }
-    ensures refused { DiskKept S.Store conn.new
-        → OnErr result (SeesFirstRegistry (state S.Store conn.old) → IsOpen S.Store conn.new
-        → IsAsBefore (state S.Store conn.old) (state S.Store conn.new)) }
+    ensures carries { CarriesOver S.Store conn.old conn.new result SeesFirstRegistry }
     ensures store { DiskKept S.Store conn.new
         → OnOther result (SeesFirstRegistry (state S.Store conn.old)
         → StoreFailed S.Store conn.old conn.new) }
-    ensures left { SeesFirstRegistry (state S.Store conn.old)
-        → MayCarryOver S.Store conn.old conn.new }
     ensures survives { Survives (state S.Store conn.old) (state S.Store conn.new) (λ _. Unit {0}) }
 {
     if !conn.is_autocommit() {

@@ -1,9 +1,9 @@
 //! The numbers by which the commands are counted, as the store shows them.
 
-ghost use Rattle.std.specs.Prelude.{◌≡◌, ◌≢◌, IfOk, IfErr, OnOk, OnErr};
 ghost use Rattle.gm_rows.specs.Queries.{IsNumberShown, AreNumbersShown};
-ghost use Rattle.gm_registry.specs.Registry.{DiskKept, IsOpen, seen, HasRead, HasFailed, IsOurs, StoreFailed};
-ghost use Rattle.gm_rows.specs.Faults.{OnStore};
+ghost use Rattle.gm_registry.specs.Registry.{seen};
+ghost use Rattle.gm_registry.specs.Tells.{Queries};
+ghost use Rattle.gm_registry.specs.Reads.{IsOurSchema};
 
 use gm_rows::{CommandNumber, CommandNumbers, StoreFault};
 use sqlite::{Alter, Connection, Row};
@@ -13,14 +13,8 @@ fn rows_with<S: Alter>(
     conn: &mut Connection<S>,
     number: CommandNumber,
 ) -> Result<Vec<Row>, StoreFault>
-    ensures rows { DiskKept S.Store conn.new → IfOk result (λ rows. IsOurs S.Store conn.old
-        → IsNumberShown (seen S.Store conn.old) number rows.items) }
-    ensures read { OnOk result (HasRead S.Store conn.old conn.new) }
-    ensures failed { OnErr result (HasFailed S.Store conn.old conn.new) }
-    ensures store { DiskKept S.Store conn.new
-        → OnStore result (IsOurs S.Store conn.old → IsOpen S.Store conn.old
-        → StoreFailed S.Store conn.old conn.new) }
-    ensures fault { IfErr result (λ e. e ≢ StoreFault.Unreadable) }
+    ensures { Queries S.Store conn.old conn.new IsOurSchema result
+        (λ rows. IsNumberShown (seen S.Store conn.old) number rows.items) }
 {
     match conn.query_all(number.query(), &[]) {
         Ok(rows) => Ok(rows),
@@ -32,14 +26,8 @@ fn rows_with<S: Alter>(
 pub(crate) fn fetch_numbers<S: Alter>(
     conn: &mut Connection<S>,
 ) -> Result<CommandNumbers, StoreFault>
-    ensures rows { DiskKept S.Store conn.new → IfOk result (λ n. IsOurs S.Store conn.old
-        → AreNumbersShown (seen S.Store conn.old) n) }
-    ensures read { OnOk result (HasRead S.Store conn.old conn.new) }
-    ensures failed { OnErr result (HasFailed S.Store conn.old conn.new) }
-    ensures store { DiskKept S.Store conn.new
-        → OnStore result (IsOurs S.Store conn.old → IsOpen S.Store conn.old
-        → StoreFailed S.Store conn.old conn.new) }
-    ensures fault { IfErr result (λ e. e ≢ StoreFault.Unreadable) }
+    ensures { Queries S.Store conn.old conn.new IsOurSchema result
+        (AreNumbersShown (seen S.Store conn.old)) }
 {
     let count = rows_with(conn, CommandNumber::Count)?;
     let least = rows_with(conn, CommandNumber::Least)?;

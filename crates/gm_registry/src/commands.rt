@@ -1,10 +1,9 @@
 //! The table of accepted commands: written inside a transaction, read by the key or from the end of
 //! its numbers.
 
-ghost use Rattle.std.specs.Prelude.{◌≡◌};
-ghost use Rattle.gm_registry.specs.Changes.{with_command, command_row};
+ghost use Rattle.gm_registry.specs.Changes.{with_command, command_row, row_under};
 ghost use Rattle.gm_registry.specs.Fitting.{TakesCommand};
-ghost use Rattle.gm_registry.specs.Registry.{LeavesNothingNew, KeepsCommit, MakesInside, FailsInside, NumbersInside};
+ghost use Rattle.gm_registry.specs.Registry.{ChangesInside};
 
 use gm_state::Reply;
 use sqlite::{Alter, Error, Transaction, params};
@@ -18,21 +17,9 @@ fn put_row<S: Alter>(
     copied: u32,
     of_total: u32,
 ) -> Result<usize, Error>
-    ensures same_reference { tx.new.conn.ghost_name ≡ tx.old.conn.ghost_name }
-    ensures put { MakesInside S.Store tx.old.conn.now tx.new.conn.now result
-        (with_command
-        (record {
-          call_key = key.now;
-          seq = number;
-          words = words.now;
-          copied = copied;
-          of_total = of_total;
-        })) }
-    ensures fails { FailsInside S.Store tx.old.conn.now tx.new.conn.now result
-        (TakesCommand key.now words.now number) }
-    ensures numbers { NumbersInside S.Store tx.old.conn.now tx.new.conn.now result 1 }
-    ensures kept { KeepsCommit S.Store tx.old.conn.now tx.new.conn.now }
-    ensures survives { LeavesNothingNew S.Store tx.old.conn.now tx.new.conn.now }
+    ensures { ChangesInside S.Store tx.old tx.new result
+        (with_command (row_under key.now number words.now copied of_total))
+        (TakesCommand key.now words.now number) 1 }
 {
     tx.execute(
         "INSERT INTO commands (call_key, seq, words, copied, of_total) VALUES (?1, ?2, ?3, ?4, ?5)",
@@ -48,14 +35,9 @@ pub(crate) fn put_command<S: Alter>(
     words: &str,
     reply: Reply,
 ) -> Result<usize, Error>
-    ensures same_reference { tx.new.conn.ghost_name ≡ tx.old.conn.ghost_name }
-    ensures put { MakesInside S.Store tx.old.conn.now tx.new.conn.now result
-        (with_command (command_row key.now number words.now reply)) }
-    ensures fails { FailsInside S.Store tx.old.conn.now tx.new.conn.now result
-        (TakesCommand key.now words.now number) }
-    ensures numbers { NumbersInside S.Store tx.old.conn.now tx.new.conn.now result 1 }
-    ensures kept { KeepsCommit S.Store tx.old.conn.now tx.new.conn.now }
-    ensures survives { LeavesNothingNew S.Store tx.old.conn.now tx.new.conn.now }
+    ensures { ChangesInside S.Store tx.old tx.new result
+        (with_command (command_row key.now number words.now reply))
+        (TakesCommand key.now words.now number) 1 }
 {
     match reply {
         Reply::Plain => put_row(tx, key, number, words, 0, 0),

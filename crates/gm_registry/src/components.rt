@@ -1,11 +1,11 @@
 //! The table of components, written by the provider, inside a transaction.
 
-ghost use Rattle.std.specs.Prelude.{◌≡◌, length, ⊤};
+ghost use Rattle.std.specs.Prelude.{length, ⊤};
 ghost use Rattle.gm_state.specs.Rows.{component_row};
 ghost use Rattle.gm_registry.specs.Changes.{with_component, without_component, with_components, without_components};
 ghost use Rattle.gm_registry.specs.Fitting.{HasRoom, TakesComponent};
 ghost use Rattle.gm_registry.specs.FittingChanges.{ArePlacedInTurn};
-ghost use Rattle.gm_registry.specs.Registry.{LeavesNothingNew, KeepsCommit, MakesInside, FailsInside, NumbersInside};
+ghost use Rattle.gm_registry.specs.Registry.{ChangesInside};
 
 use gm_metadata::Label;
 use gm_rows::{bytes_in, disk_number, truth_number};
@@ -17,14 +17,8 @@ fn put_component<S: Alter>(
     tx: &mut Transaction<'_, S>,
     component: Component,
 ) -> Result<usize, Error>
-    ensures same_reference { tx.new.conn.ghost_name ≡ tx.old.conn.ghost_name }
-    ensures put { MakesInside S.Store tx.old.conn.now tx.new.conn.now result
-        (with_component (component_row component)) }
-    ensures fails { FailsInside S.Store tx.old.conn.now tx.new.conn.now result
-        (TakesComponent (component_row component)) }
-    ensures numbers { NumbersInside S.Store tx.old.conn.now tx.new.conn.now result 1 }
-    ensures kept { KeepsCommit S.Store tx.old.conn.now tx.new.conn.now }
-    ensures survives { LeavesNothingNew S.Store tx.old.conn.now tx.new.conn.now }
+    ensures { ChangesInside S.Store tx.old tx.new result (with_component (component_row component))
+        (TakesComponent (component_row component)) 1 }
 {
     tx.execute(
         "INSERT INTO components (prov, mirror, did, syncid, priority, sync_offset, dflags, hard, provsize) VALUES (?1, ?2, ?3, ?4, ?5, ?6, ?7, ?8, ?9) ON CONFLICT (prov) DO UPDATE SET mirror = excluded.mirror, did = excluded.did, syncid = excluded.syncid, priority = excluded.priority, sync_offset = excluded.sync_offset, dflags = excluded.dflags, hard = excluded.hard, provsize = excluded.provsize",
@@ -47,15 +41,9 @@ pub(crate) fn put_components<S: Alter>(
     tx: &mut Transaction<'_, S>,
     components: &[Component],
 ) -> Result<(), Error>
-    ensures same_reference { tx.new.conn.ghost_name ≡ tx.old.conn.ghost_name }
-    ensures put { MakesInside S.Store tx.old.conn.now tx.new.conn.now result
-        (with_components components.now) }
-    ensures fails { FailsInside S.Store tx.old.conn.now tx.new.conn.now result
-        (λ db t. ArePlacedInTurn components.now t × HasRoom (length components.now) db) }
-    ensures numbers { NumbersInside S.Store tx.old.conn.now tx.new.conn.now result
+    ensures { ChangesInside S.Store tx.old tx.new result (with_components components.now)
+        (λ db t. ArePlacedInTurn components.now t × HasRoom (length components.now) db)
         (length components.now) }
-    ensures kept { KeepsCommit S.Store tx.old.conn.now tx.new.conn.now }
-    ensures survives { LeavesNothingNew S.Store tx.old.conn.now tx.new.conn.now }
 {
     'puts: for component in components {
         put_component(tx, *component)?;
@@ -65,13 +53,7 @@ pub(crate) fn put_components<S: Alter>(
 
 /// Deletes the component on a provider.
 fn drop_component<S: Alter>(tx: &mut Transaction<'_, S>, provider: Label) -> Result<usize, Error>
-    ensures same_reference { tx.new.conn.ghost_name ≡ tx.old.conn.ghost_name }
-    ensures put { MakesInside S.Store tx.old.conn.now tx.new.conn.now result
-        (without_component provider) }
-    ensures fails { FailsInside S.Store tx.old.conn.now tx.new.conn.now result (λ _ _. ⊤) }
-    ensures numbers { NumbersInside S.Store tx.old.conn.now tx.new.conn.now result 0 }
-    ensures kept { KeepsCommit S.Store tx.old.conn.now tx.new.conn.now }
-    ensures survives { LeavesNothingNew S.Store tx.old.conn.now tx.new.conn.now }
+    ensures { ChangesInside S.Store tx.old tx.new result (without_component provider) (λ _ _. ⊤) 0 }
 {
     tx.execute(
         "DELETE FROM components WHERE prov = ?1",
@@ -84,13 +66,8 @@ pub(crate) fn drop_components<S: Alter>(
     tx: &mut Transaction<'_, S>,
     providers: &[Label],
 ) -> Result<(), Error>
-    ensures same_reference { tx.new.conn.ghost_name ≡ tx.old.conn.ghost_name }
-    ensures put { MakesInside S.Store tx.old.conn.now tx.new.conn.now result
-        (without_components providers.now) }
-    ensures fails { FailsInside S.Store tx.old.conn.now tx.new.conn.now result (λ _ _. ⊤) }
-    ensures numbers { NumbersInside S.Store tx.old.conn.now tx.new.conn.now result 0 }
-    ensures kept { KeepsCommit S.Store tx.old.conn.now tx.new.conn.now }
-    ensures survives { LeavesNothingNew S.Store tx.old.conn.now tx.new.conn.now }
+    ensures { ChangesInside S.Store tx.old tx.new result (without_components providers.now)
+        (λ _ _. ⊤) 0 }
 {
     'drops: for provider in providers {
         drop_component(tx, *provider)?;

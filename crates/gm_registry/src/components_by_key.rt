@@ -1,15 +1,12 @@
 //! The components under a key: on a provider, or of a mirror.
 
-ghost use Rattle.std.specs.Prelude.{◌≡◌, ◌≢◌, IfOk, IfErr, OnOk, OnErr, IsPermutation, flat_map, map};
-ghost use Rattle.gm_state.specs.Records.{Records};
-ghost use Rattle.gm_state.specs.Rows.{Tables};
+ghost use Rattle.std.specs.Prelude.{◌≡◌, OnOk, flat_map};
 ghost use Rattle.gm_registry.specs.Keys.{key_text, shown_under, AreUnder, under};
-ghost use Rattle.gm_registry.specs.Parts.{SayNone};
 ghost use Rattle.gm_rows.specs.Says.{component_shown};
 ghost use Rattle.gm_rows.specs.Values.{IsComponentValue};
-ghost use Rattle.gm_rows.specs.ReadableTables.{AreRecordsOf};
-ghost use Rattle.gm_registry.specs.Registry.{DiskKept, IsOpen, seen, HasTables, HasRead, HaveRead, HasFailed, IsOurs, StoreFailed};
-ghost use Rattle.gm_rows.specs.Faults.{OnUnreadable, OnStore};
+ghost use Rattle.gm_registry.specs.Registry.{seen, HasRead, HaveRead};
+ghost use Rattle.gm_registry.specs.Tells.{FailsReading, TellsList, Queries};
+ghost use Rattle.gm_registry.specs.Reads.{IsOurSchema};
 
 use gm_metadata::Label;
 use gm_rows::{StoreFault, read_all};
@@ -46,14 +43,8 @@ fn rows_under<S: Alter>(
     key: Key,
     label: &str,
 ) -> Result<Vec<Row>, StoreFault>
-    ensures rows { DiskKept S.Store conn.new → IfOk result (λ rows. IsOurs S.Store conn.old
-        → AreUnder (seen S.Store conn.old) key label.now rows.items) }
-    ensures read { OnOk result (HasRead S.Store conn.old conn.new) }
-    ensures failed { OnErr result (HasFailed S.Store conn.old conn.new) }
-    ensures store { DiskKept S.Store conn.new
-        → OnStore result (IsOurs S.Store conn.old → IsOpen S.Store conn.old
-        → StoreFailed S.Store conn.old conn.new) }
-    ensures fault { IfErr result (λ e. e ≢ StoreFault.Unreadable) }
+    ensures { Queries S.Store conn.old conn.new IsOurSchema result
+        (λ rows. AreUnder (seen S.Store conn.old) key label.now rows.items) }
 {
     match conn.query_all(key.query(), params![label]) {
         Ok(rows) => Ok(rows),
@@ -68,23 +59,10 @@ pub(crate) fn components_with<S: Alter>(
     key: Key,
     label: Label,
 ) -> Result<Vec<Component>, StoreFault>
-    ensures says { DiskKept S.Store conn.new → IfOk result (λ ks. IsOurs S.Store conn.old
-        → IsPermutation (shown_under (seen S.Store conn.old) key label)
-        (map component_shown ks.items)) }
-    ensures silent { DiskKept S.Store conn.new → OnUnreadable result (IsOurs S.Store conn.old
-        → SayNone component_shown IsComponentValue
-        (shown_under (seen S.Store conn.old) key label)) }
-    ensures found { DiskKept S.Store conn.new
-        → IfOk result (λ ks. (t : Tables) (s : Records) → HasTables S.Store conn.old t
-        → AreRecordsOf t s → IsPermutation (under key s.components label) ks.items) }
-    ensures unreadable { DiskKept S.Store conn.new
-        → OnUnreadable result ((t : Tables) (s : Records) → HasTables S.Store conn.old t
-        → AreRecordsOf t s → ⊥) }
+    ensures tells { TellsList S.Store conn.old conn.new component_shown IsComponentValue result
+        (shown_under (seen S.Store conn.old) key label) (λ s. under key s.components label) }
     ensures read { OnOk result (HasRead S.Store conn.old conn.new) }
-    ensures failed { OnErr result (HasFailed S.Store conn.old conn.new) }
-    ensures store { DiskKept S.Store conn.new
-        → OnStore result (IsOurs S.Store conn.old → IsOpen S.Store conn.old
-        → StoreFailed S.Store conn.old conn.new) }
+    ensures fails { FailsReading S.Store conn.old conn.new IsOurSchema result }
 {
     let rows = rows_under(conn, key, label.as_str())?;
     read_all(alloc, &rows)
@@ -97,24 +75,11 @@ pub(crate) fn components_under<S: Alter>(
     key: Key,
     labels: &[Label],
 ) -> Result<Vec<Component>, StoreFault>
-    ensures says { DiskKept S.Store conn.new → IfOk result (λ ks. IsOurs S.Store conn.old
-        → IsPermutation (flat_map (shown_under (seen S.Store conn.old) key) labels.now)
-        (map component_shown ks.items)) }
-    ensures silent { DiskKept S.Store conn.new → OnUnreadable result (IsOurs S.Store conn.old
-        → SayNone component_shown IsComponentValue
-        (flat_map (shown_under (seen S.Store conn.old) key) labels.now)) }
-    ensures found { DiskKept S.Store conn.new
-        → IfOk result (λ ks. (t : Tables) (s : Records) → HasTables S.Store conn.old t
-        → AreRecordsOf t s
-        → IsPermutation (flat_map (under key s.components) labels.now) ks.items) }
-    ensures unreadable { DiskKept S.Store conn.new
-        → OnUnreadable result ((t : Tables) (s : Records) → HasTables S.Store conn.old t
-        → AreRecordsOf t s → ⊥) }
+    ensures tells { TellsList S.Store conn.old conn.new component_shown IsComponentValue result
+        (flat_map (shown_under (seen S.Store conn.old) key) labels.now)
+        (λ s. flat_map (under key s.components) labels.now) }
     ensures read { OnOk result (HaveRead S.Store conn.old conn.new) }
-    ensures failed { OnErr result (HasFailed S.Store conn.old conn.new) }
-    ensures store { DiskKept S.Store conn.new
-        → OnStore result (IsOurs S.Store conn.old → IsOpen S.Store conn.old
-        → StoreFailed S.Store conn.old conn.new) }
+    ensures fails { FailsReading S.Store conn.old conn.new IsOurSchema result }
 {
     let mut all = Vec::new(alloc);
     'labels: for label in labels {

@@ -2,27 +2,19 @@
 
 ghost use Rattle.std.specs.Prelude.{◌≡◌, [], ◌∷◌, false, OnOk};
 ghost use Rattle.sqlite.specs.Held.{state};
-ghost use Rattle.sqlite.specs.Effect.{Database};
 ghost use Rattle.gm_rows.specs.Faults.{OnOther};
-ghost use Rattle.sqlite.specs.Tree.{Trees};
 ghost use Rattle.gm_rows.specs.Rows.{about_values};
 ghost use Rattle.gm_rows.specs.Tables.{no_tables};
-ghost use Rattle.gm_registry.specs.Opening.{no_rows, IsBeingMade, IsBlank, IsBlankInside};
-ghost use Rattle.gm_registry.specs.Registry.{DiskKept, HasTables, WasClean, MayLeave, LeavesNothingNew, KeepsCommit, StoreFailed};
+ghost use Rattle.gm_registry.specs.Opening.{HasAbout, no_rows, IsBeingMade, IsBlank, IsBlankInside};
+ghost use Rattle.gm_registry.specs.Registry.{DiskKept, HasTables, WasClean, MayLeave, KeepsCommit, StoreFailed};
+ghost use Rattle.gm_registry.specs.Opens.{LeadsInside};
 
 use gm_rows::{ABOUT, COMMANDS, COMPONENTS, INTENTS, MIRRORS, PATCHES};
 use sqlite::{Alter, Connection, Error, Transaction};
 
 /// Makes the tables, over a store without any.
 fn create_tables<S: Alter>(tx: &mut Transaction<'_, S>) -> Result<(), Error>
-    ensures same_reference { tx.new.conn.ghost_name ≡ tx.old.conn.ghost_name }
-    ensures made { DiskKept S.Store tx.new.conn.now
-        → OnOk result ((first : Database) → IsBlankInside first (state S.Store tx.old.conn.now)
-        → IsBeingMade [] no_rows first (state S.Store tx.new.conn.now)) }
-    ensures fails { DiskKept S.Store tx.new.conn.now
-        → OnOther result ((first : Database) → IsBlankInside first (state S.Store tx.old.conn.now)
-        → StoreFailed S.Store tx.old.conn.now tx.new.conn.now) }
-    ensures survives { LeavesNothingNew S.Store tx.old.conn.now tx.new.conn.now }
+    ensures { LeadsInside S.Store tx.old tx.new result IsBlankInside (IsBeingMade [] no_rows) }
 {
     tx.execute(ABOUT, &[])?;
     tx.execute(MIRRORS, &[])?;
@@ -35,17 +27,9 @@ fn create_tables<S: Alter>(tx: &mut Transaction<'_, S>) -> Result<(), Error>
 
 /// Adds the record of `about`, if it has none.
 pub(crate) fn put_about<S: Alter>(tx: &mut Transaction<'_, S>) -> Result<usize, Error>
-    ensures same_reference { tx.new.conn.ghost_name ≡ tx.old.conn.ghost_name }
-    ensures made { DiskKept S.Store tx.new.conn.now
-        → OnOk result ((rows : Trees) (first : Database)
-        → IsBeingMade [] rows first (state S.Store tx.old.conn.now)
-        → IsBeingMade (about_values ∷ []) rows first (state S.Store tx.new.conn.now)) }
-    ensures fails { DiskKept S.Store tx.new.conn.now
-        → OnOther result ((rows : Trees) (first : Database)
-        → IsBeingMade [] rows first (state S.Store tx.old.conn.now)
-        → StoreFailed S.Store tx.old.conn.now tx.new.conn.now) }
+    ensures leads { LeadsInside S.Store tx.old tx.new result (HasAbout [])
+        (HasAbout (about_values ∷ [])) }
     ensures kept { KeepsCommit S.Store tx.old.conn.now tx.new.conn.now }
-    ensures survives { LeavesNothingNew S.Store tx.old.conn.now tx.new.conn.now }
 {
     tx.execute("INSERT INTO about (one, schema_no) VALUES (1, 2)", &[])
 }

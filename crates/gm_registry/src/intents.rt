@@ -1,13 +1,11 @@
 //! The table of intents, numbered from 1 in their order, written inside a transaction; and what
 //! becomes of all that is pending.
 
-ghost use Rattle.std.specs.Prelude.{◌≡◌, [], ◌∷◌, length, OnOk, OnErr, ⊤};
+ghost use Rattle.std.specs.Prelude.{[], ◌∷◌, length, ⊤};
 ghost use Rattle.gm_state.specs.Rows.{Tables, intent_row, intent_rows};
-ghost use Rattle.sqlite.specs.Held.{state};
-ghost use Rattle.sqlite.specs.State.{Survives};
-ghost use Rattle.gm_registry.specs.Changes.{with_intents, without_intents, settled, left_of};
+ghost use Rattle.gm_registry.specs.Changes.{row_of_kind, with_intents, without_intents, settled, left_of};
 ghost use Rattle.gm_registry.specs.Fitting.{IsUnnumbered, AreShort, TakesIntents};
-ghost use Rattle.gm_registry.specs.Registry.{DiskKept, IsOpen, HasTables, MayLeave, LeavesNothingNew, KeepsCommit, MakesInside, FailsInside, NumbersInside, StoreFailed, Writes};
+ghost use Rattle.gm_registry.specs.Registry.{WritesGiven, ChangesInside, DiskKept, HasTables, StoreFailed, Writes};
 ghost use Rattle.gm_rows.specs.Faults.{OnOther};
 
 use crate::patches::drop_bytes;
@@ -35,22 +33,9 @@ fn put_row<S: Alter>(
     first: u32,
     end: u32,
 ) -> Result<usize, Error>
-    ensures same_reference { tx.new.conn.ghost_name ≡ tx.old.conn.ghost_name }
-    ensures put { MakesInside S.Store tx.old.conn.now tx.new.conn.now result
-        (with_intents
-        (record {
-          ord = ord;
-          kind = kind;
-          prov = provider.now;
-          source = source.now;
-          first_sector = first;
-          end_sector = end;
-        } ∷ [])) }
-    ensures fails { FailsInside S.Store tx.old.conn.now tx.new.conn.now result
-        (λ _ t. IsUnnumbered ord t × AreShort provider.now source.now) }
-    ensures numbers { NumbersInside S.Store tx.old.conn.now tx.new.conn.now result 0 }
-    ensures kept { KeepsCommit S.Store tx.old.conn.now tx.new.conn.now }
-    ensures survives { LeavesNothingNew S.Store tx.old.conn.now tx.new.conn.now }
+    ensures { ChangesInside S.Store tx.old tx.new result
+        (with_intents (row_of_kind kind ord provider.now source.now first end ∷ []))
+        (λ _ t. IsUnnumbered ord t × AreShort provider.now source.now) 0 }
 {
     tx.execute(
         "INSERT INTO intents (ord, kind, prov, source, first_sector, end_sector) VALUES (?1, ?2, ?3, ?4, ?5, ?6)",
@@ -64,14 +49,8 @@ fn put_intent<S: Alter>(
     ord: u32,
     intent: Intent,
 ) -> Result<usize, Error>
-    ensures same_reference { tx.new.conn.ghost_name ≡ tx.old.conn.ghost_name }
-    ensures put { MakesInside S.Store tx.old.conn.now tx.new.conn.now result
-        (with_intents (intent_row ord intent ∷ [])) }
-    ensures fails { FailsInside S.Store tx.old.conn.now tx.new.conn.now result
-        (λ _. IsUnnumbered ord) }
-    ensures numbers { NumbersInside S.Store tx.old.conn.now tx.new.conn.now result 0 }
-    ensures kept { KeepsCommit S.Store tx.old.conn.now tx.new.conn.now }
-    ensures survives { LeavesNothingNew S.Store tx.old.conn.now tx.new.conn.now }
+    ensures { ChangesInside S.Store tx.old tx.new result (with_intents (intent_row ord intent ∷ []))
+        (λ _. IsUnnumbered ord) 0 }
 {
     match intent {
         Intent::Meta { provider } => put_row(tx, ord, META, provider.as_str(), "", 0, 0),
@@ -96,14 +75,8 @@ pub(crate) fn put_intents<S: Alter>(
     tx: &mut Transaction<'_, S>,
     intents: &[Intent],
 ) -> Result<(), Error>
-    ensures same_reference { tx.new.conn.ghost_name ≡ tx.old.conn.ghost_name }
-    ensures put { MakesInside S.Store tx.old.conn.now tx.new.conn.now result
-        (with_intents (intent_rows 1 intents.now)) }
-    ensures fails { FailsInside S.Store tx.old.conn.now tx.new.conn.now result
-        (λ _. TakesIntents (length intents.now)) }
-    ensures numbers { NumbersInside S.Store tx.old.conn.now tx.new.conn.now result 0 }
-    ensures kept { KeepsCommit S.Store tx.old.conn.now tx.new.conn.now }
-    ensures survives { LeavesNothingNew S.Store tx.old.conn.now tx.new.conn.now }
+    ensures { ChangesInside S.Store tx.old tx.new result (with_intents (intent_rows 1 intents.now))
+        (λ _. TakesIntents (length intents.now)) 0 }
 {
     let mut ord = 0u32;
     'puts: for intent in intents {
@@ -127,24 +100,14 @@ pub(crate) enum Pending {
 
 /// Deletes all intents.
 fn drop_intents<S: Alter>(tx: &mut Transaction<'_, S>) -> Result<usize, Error>
-    ensures same_reference { tx.new.conn.ghost_name ≡ tx.old.conn.ghost_name }
-    ensures put { MakesInside S.Store tx.old.conn.now tx.new.conn.now result without_intents }
-    ensures fails { FailsInside S.Store tx.old.conn.now tx.new.conn.now result (λ _ _. ⊤) }
-    ensures numbers { NumbersInside S.Store tx.old.conn.now tx.new.conn.now result 0 }
-    ensures kept { KeepsCommit S.Store tx.old.conn.now tx.new.conn.now }
-    ensures survives { LeavesNothingNew S.Store tx.old.conn.now tx.new.conn.now }
+    ensures { ChangesInside S.Store tx.old tx.new result without_intents (λ _ _. ⊤) 0 }
 {
     tx.execute("DELETE FROM intents", &[])
 }
 
 /// Deletes all intents, and the bytes that they lay.
 fn drop_all<S: Alter>(tx: &mut Transaction<'_, S>) -> Result<(), Error>
-    ensures same_reference { tx.new.conn.ghost_name ≡ tx.old.conn.ghost_name }
-    ensures put { MakesInside S.Store tx.old.conn.now tx.new.conn.now result settled }
-    ensures fails { FailsInside S.Store tx.old.conn.now tx.new.conn.now result (λ _ _. ⊤) }
-    ensures numbers { NumbersInside S.Store tx.old.conn.now tx.new.conn.now result 0 }
-    ensures kept { KeepsCommit S.Store tx.old.conn.now tx.new.conn.now }
-    ensures survives { LeavesNothingNew S.Store tx.old.conn.now tx.new.conn.now }
+    ensures { ChangesInside S.Store tx.old tx.new result settled (λ _ _. ⊤) 0 }
 {
     drop_intents(tx)?;
     drop_bytes(tx)?;
@@ -156,12 +119,7 @@ pub(crate) fn drop_pending<S: Alter>(
     tx: &mut Transaction<'_, S>,
     pending: Pending,
 ) -> Result<(), Error>
-    ensures same_reference { tx.new.conn.ghost_name ≡ tx.old.conn.ghost_name }
-    ensures put { MakesInside S.Store tx.old.conn.now tx.new.conn.now result (left_of pending) }
-    ensures fails { FailsInside S.Store tx.old.conn.now tx.new.conn.now result (λ _ _. ⊤) }
-    ensures numbers { NumbersInside S.Store tx.old.conn.now tx.new.conn.now result 0 }
-    ensures kept { KeepsCommit S.Store tx.old.conn.now tx.new.conn.now }
-    ensures survives { LeavesNothingNew S.Store tx.old.conn.now tx.new.conn.now }
+    ensures { ChangesInside S.Store tx.old tx.new result (left_of pending) (λ _ _. ⊤) 0 }
 {
     match pending {
         Pending::Stays => Ok(()),
@@ -171,16 +129,7 @@ pub(crate) fn drop_pending<S: Alter>(
 
 /// Deletes all that is pending, in one transaction.
 fn write_settled<S: Alter>(conn: &mut Connection<S>) -> Result<(), Error>
-    ensures done { DiskKept S.Store conn.new → OnOk result ((t : Tables)
-        → HasTables S.Store conn.old t → HasTables S.Store conn.new (settled t)) }
-    ensures refused { DiskKept S.Store conn.new → OnErr result ((t : Tables)
-        → HasTables S.Store conn.old t → IsOpen S.Store conn.new → HasTables S.Store conn.new t) }
-    ensures store { DiskKept S.Store conn.new
-        → OnOther result ((t : Tables) → HasTables S.Store conn.old t
-        → StoreFailed S.Store conn.old conn.new) }
-    ensures left { (t : Tables) → HasTables S.Store conn.old t
-        → MayLeave S.Store conn.old conn.new (settled t) }
-    ensures survives { Survives (state S.Store conn.old) (state S.Store conn.new) (λ _. Unit {0}) }
+    ensures { WritesGiven S.Store conn.old conn.new result (λ _. ⊤) settled (λ _ _. ⊤) }
 {
     if !conn.is_autocommit() {
         return Err(Error::SqliteFailure(ErrorCode::TransactionState));

@@ -1,13 +1,13 @@
 //! What holds of all tables of a registry: laws, each the contract of a function that does nothing.
 
-ghost use Rattle.std.specs.Prelude.{◌≡◌, ◌∷◌, ◌++◌, ◌+◌, ℕ, List, length};
+ghost use Rattle.std.specs.Prelude.{◌≡◌, ℕ, List};
 ghost use Rattle.sqlite.specs.Held.{Held};
 ghost use Rattle.gm_state.specs.declared.intents.Intent.{Intent};
-ghost use Rattle.gm_state.specs.Records.{Records, IsState};
-ghost use Rattle.gm_state.specs.Rows.{Tables, intent_rows, patch_rows};
-ghost use Rattle.gm_changes.specs.Decides.{Changed, changed_by};
-ghost use Rattle.gm_registry.specs.Changes.{command_row, with_accepted};
-ghost use Rattle.gm_rows.specs.ReadableTables.{AreTablesOf, AreRepliesInRange, HoldState};
+ghost use Rattle.gm_state.specs.Records.{Records};
+ghost use Rattle.gm_state.specs.Rows.{Tables};
+ghost use Rattle.gm_changes.specs.Decides.{Changed};
+ghost use Rattle.gm_registry.specs.Changes.{HoldsChange, with_accepted};
+ghost use Rattle.gm_rows.specs.ReadableTables.{AreTablesOf, AreRepliesInRange};
 ghost use Rattle.gm_registry.specs.Registry.{HasTables, HasTablesOf, HasSaved, IsRegistry, IsUnbroken, seen};
 ghost use Rattle.gm_rows.specs.Says.{TablesSay, RepliesSay};
 ghost use Rattle.gm_rows.specs.Tables.{HasRisingRowids};
@@ -27,15 +27,8 @@ pub fn one_reading()
 /// With a change the tables hold the rows of the records with the change, its intents and its bytes
 /// before those that were pending, and the command under its key.
 pub fn change_holds()
-    ensures records { (ch : Changed) (key words : List ℕ) (s : Records) (t : Tables) → IsState s
-        → HoldState s t → HoldState (changed_by ch s) (with_accepted ch key words t) }
-    ensures intents { (ch : Changed) (key words : List ℕ) (t : Tables)
-        → (with_accepted ch key words t).intents ≡ intent_rows 1 ch.intents ++ t.intents }
-    ensures patches { (ch : Changed) (key words : List ℕ) (t : Tables)
-        → (with_accepted ch key words t).patches ≡ patch_rows ch.bytes ++ t.patches }
-    ensures commands { (ch : Changed) (key words : List ℕ) (t : Tables)
-        → (with_accepted ch key words t).commands
-        ≡ command_row key (length t.commands + 1) words ch.reply ∷ t.commands }
+    ensures { (ch : Changed) (key words : List ℕ) (t : Tables)
+        → HoldsChange ch key words t (with_accepted ch key words t) }
 {}
 
 /// A registry that has tables has them saved: a crash between two calls leaves them and nothing

@@ -1,10 +1,9 @@
 //! The table of mirrors, written by the name, inside a transaction.
 
-ghost use Rattle.std.specs.Prelude.{◌≡◌};
 ghost use Rattle.gm_state.specs.Rows.{mirror_row};
 ghost use Rattle.gm_registry.specs.Changes.{with_mirror, without_mirror};
 ghost use Rattle.gm_registry.specs.Fitting.{HasNoComponents, TakesMirror};
-ghost use Rattle.gm_registry.specs.Registry.{LeavesNothingNew, KeepsCommit, MakesInside, FailsInside, NumbersInside};
+ghost use Rattle.gm_registry.specs.Registry.{ChangesInside};
 
 use gm_metadata::Label;
 use gm_rows::{balance_number, bytes_in, mirror_number};
@@ -16,14 +15,8 @@ pub(crate) fn put_mirror<S: Alter>(
     tx: &mut Transaction<'_, S>,
     mirror: Mirror,
 ) -> Result<usize, Error>
-    ensures same_reference { tx.new.conn.ghost_name ≡ tx.old.conn.ghost_name }
-    ensures put { MakesInside S.Store tx.old.conn.now tx.new.conn.now result
-        (with_mirror (mirror_row mirror)) }
-    ensures fails { FailsInside S.Store tx.old.conn.now tx.new.conn.now result
-        (TakesMirror (mirror_row mirror)) }
-    ensures numbers { NumbersInside S.Store tx.old.conn.now tx.new.conn.now result 1 }
-    ensures kept { KeepsCommit S.Store tx.old.conn.now tx.new.conn.now }
-    ensures survives { LeavesNothingNew S.Store tx.old.conn.now tx.new.conn.now }
+    ensures { ChangesInside S.Store tx.old tx.new result (with_mirror (mirror_row mirror))
+        (TakesMirror (mirror_row mirror)) 1 }
 {
     tx.execute(
         "INSERT INTO mirrors (name, mid, total, genid, syncid, slice, balance, mediasize, mflags) VALUES (?1, ?2, ?3, ?4, ?5, ?6, ?7, ?8, ?9) ON CONFLICT (name) DO UPDATE SET mid = excluded.mid, total = excluded.total, genid = excluded.genid, syncid = excluded.syncid, slice = excluded.slice, balance = excluded.balance, mediasize = excluded.mediasize, mflags = excluded.mflags",
@@ -46,13 +39,8 @@ pub(crate) fn drop_mirror<S: Alter>(
     tx: &mut Transaction<'_, S>,
     name: Label,
 ) -> Result<usize, Error>
-    ensures same_reference { tx.new.conn.ghost_name ≡ tx.old.conn.ghost_name }
-    ensures put { MakesInside S.Store tx.old.conn.now tx.new.conn.now result (without_mirror name) }
-    ensures fails { FailsInside S.Store tx.old.conn.now tx.new.conn.now result
-        (λ _. HasNoComponents name) }
-    ensures numbers { NumbersInside S.Store tx.old.conn.now tx.new.conn.now result 0 }
-    ensures kept { KeepsCommit S.Store tx.old.conn.now tx.new.conn.now }
-    ensures survives { LeavesNothingNew S.Store tx.old.conn.now tx.new.conn.now }
+    ensures { ChangesInside S.Store tx.old tx.new result (without_mirror name)
+        (λ _. HasNoComponents name) 0 }
 {
     tx.execute(
         "DELETE FROM mirrors WHERE name = ?1",

@@ -1,20 +1,20 @@
 //! What is found in a store that is opened: nothing, a registry, or something else.
 
-ghost use Rattle.std.specs.Prelude.{◌≡◌, ◌≢◌, ◌↔◌, false, map, IfOk, IfErr, IsTrue, OnOk, OnErr, IsPermutation};
+ghost use Rattle.std.specs.Prelude.{◌≡◌, ◌↔◌, false, map, IsTrue, OnOk, IsPermutation};
 ghost use Rattle.sqlite.specs.Held.{state};
 ghost use Rattle.gm_lists.specs.Ordered.{Has};
 ghost use Rattle.gm_rows.specs.Schema.{no_schema};
 ghost use Rattle.gm_rows.specs.Queries.{IsShown};
 ghost use Rattle.gm_rows.specs.declared.fetched.Table.TheVariants.{About};
-ghost use Rattle.gm_registry.specs.Opening.{schema_of, IsAsBefore, IsCarriedOver, IsNumbered, IsOfRegistry, SeesFirstStore};
-ghost use Rattle.gm_registry.specs.Opens.{GoesByTexts, Opens};
-ghost use Rattle.gm_registry.specs.Listing.{listed, under_number, tables_of, AllStand, Lists, ShowsList};
+ghost use Rattle.gm_registry.specs.Opening.{SeesOneOfThem, schema_of, IsNumbered, IsOfRegistry, SeesFirstStore};
+ghost use Rattle.gm_registry.specs.Opens.{FailsToTake, CarriesOver, GoesByTexts, Opens};
+ghost use Rattle.gm_registry.specs.Listing.{listed, under_number, tables_of, AllStand, ShowsList};
 ghost use Rattle.gm_registry.specs.declared.edition.Edition.{Edition};
 ghost use Rattle.gm_registry.specs.declared.edition.Edition.TheVariants.{First};
 ghost use Rattle.gm_rows.specs.Values.{columns_at, two};
 ghost use Rattle.sqlite_rows.specs.Reads.{HasReadOver, HasFailedOver};
-ghost use Rattle.gm_registry.specs.Registry.{DiskKept, IsOpen, stored, seen, IsRegistry, WasClean, MayCarryOver, StoreFailed};
-ghost use Rattle.gm_rows.specs.Faults.{OnUnreadable, OnStore};
+ghost use Rattle.gm_registry.specs.Registry.{DiskKept, IsOpen, seen, WasClean};
+ghost use Rattle.gm_registry.specs.Tells.{Queries};
 
 use crate::carry_over::carry_over;
 use crate::create::create_all;
@@ -48,17 +48,8 @@ fn edition_of(schema: &Schema) -> Edition
 
 /// The number and the text of each object that has a text.
 fn load_texts<S: Alter>(conn: &mut Connection<S>) -> Result<Vec<Row>, StoreFault>
-    ensures rows { DiskKept S.Store conn.new
-        → IfOk result (λ rows. ShowsList (state S.Store conn.old).now.schema
-        → IsPermutation (listed (seen S.Store conn.old)) rows.items) }
-    ensures read { OnOk result (HasReadOver ShowsList (state S.Store conn.old)
-        (state S.Store conn.new)) }
-    ensures failed { OnErr result (HasFailedOver ShowsList (state S.Store conn.old)
-        (state S.Store conn.new)) }
-    ensures store { DiskKept S.Store conn.new
-        → OnStore result (ShowsList (state S.Store conn.old).now.schema → IsOpen S.Store conn.old
-        → StoreFailed S.Store conn.old conn.new) }
-    ensures fault { IfErr result (λ e. e ≢ StoreFault.Unreadable) }
+    ensures { Queries S.Store conn.old conn.new ShowsList result
+        (λ rows. IsPermutation (listed (seen S.Store conn.old)) rows.items) }
 {
     match conn.query_all(
         "SELECT rowid, sql FROM sqlite_schema WHERE sql IS NOT NULL",
@@ -113,17 +104,8 @@ fn are_texts(rows: &[Row], edition: Edition) -> bool
 
 /// All rows of `about`.
 fn about_rows<S: Alter>(conn: &mut Connection<S>) -> Result<Vec<Row>, StoreFault>
-    ensures rows { DiskKept S.Store conn.new
-        → IfOk result (λ rows. IsOfRegistry (state S.Store conn.old).now.schema
-        → IsShown (seen S.Store conn.old) About rows.items) }
-    ensures read { OnOk result (HasReadOver IsOfRegistry (state S.Store conn.old)
-        (state S.Store conn.new)) }
-    ensures failed { OnErr result (HasFailedOver IsOfRegistry (state S.Store conn.old)
-        (state S.Store conn.new)) }
-    ensures store { DiskKept S.Store conn.new
-        → OnStore result (IsOfRegistry (state S.Store conn.old).now.schema
-        → IsOpen S.Store conn.old → StoreFailed S.Store conn.old conn.new) }
-    ensures fault { IfErr result (λ e. e ≢ StoreFault.Unreadable) }
+    ensures { Queries S.Store conn.old conn.new IsOfRegistry result
+        (λ rows. IsShown (seen S.Store conn.old) About rows.items) }
 {
     match conn.query_all(Table::About.query(), &[]) {
         Ok(rows) => Ok(rows),
@@ -134,25 +116,14 @@ fn about_rows<S: Alter>(conn: &mut Connection<S>) -> Result<Vec<Row>, StoreFault
 /// Whether a store with tables is a registry of this schema, by the texts of its tables and the
 /// record of `about`.
 fn check_registry<S: Alter>(conn: &mut Connection<S>, edition: Edition) -> Result<(), StoreFault>
-    ensures texts { DiskKept S.Store conn.new
-        → OnOk result (ShowsList (state S.Store conn.old).now.schema
-        → Lists edition (seen S.Store conn.old)) }
+    ensures knows { GoesByTexts S.Store conn.old conn.new result edition }
     ensures about { DiskKept S.Store conn.new
-        → OnOk result (IsOfRegistry (state S.Store conn.old).now.schema
+        → OnOk result (SeesOneOfThem (state S.Store conn.old)
         → IsNumbered edition (seen S.Store conn.old)) }
-    ensures unreadable { DiskKept S.Store conn.new
-        → OnUnreadable result (IsOfRegistry (state S.Store conn.old).now.schema
-        → Lists edition (seen S.Store conn.old) → IsNumbered edition (seen S.Store conn.old) → ⊥) }
+    ensures fails { FailsToTake S.Store conn.old conn.new result edition SeesOneOfThem }
     ensures read { OnOk result (HasReadOver IsOfRegistry (state S.Store conn.old)
         (state S.Store conn.new)) }
     ensures failed { HasFailedOver IsOfRegistry (state S.Store conn.old) (state S.Store conn.new) }
-    ensures store { DiskKept S.Store conn.new
-        → OnStore result (ShowsList (state S.Store conn.old).now.schema
-        → (Lists edition (seen S.Store conn.old)
-        → IsOfRegistry (state S.Store conn.old).now.schema) → IsOpen S.Store conn.old
-        → StoreFailed S.Store conn.old conn.new) }
-    ensures foreign { ¬ (Lists edition (seen S.Store conn.old))
-        → HasFailedOver ShowsList (state S.Store conn.old) (state S.Store conn.new) }
 {
     let texts = load_texts(conn)?;
     if !are_texts(&texts, edition) {
@@ -167,21 +138,8 @@ fn check_registry<S: Alter>(conn: &mut Connection<S>, edition: Edition) -> Resul
 
 /// Takes a registry of the first schema, which is carried over to the second.
 fn take_first<S: Alter>(conn: &mut Connection<S>) -> Result<(), StoreFault>
-    ensures carried { DiskKept S.Store conn.new
-        → OnOk result (SeesFirstStore (state S.Store conn.old) → IsRegistry S.Store conn.new
-        × IsCarriedOver (stored S.Store conn.old) (stored S.Store conn.new)) }
-    ensures stays { DiskKept S.Store conn.new
-        → OnErr result (SeesFirstStore (state S.Store conn.old) → IsOpen S.Store conn.new
-        → IsAsBefore (state S.Store conn.old) (state S.Store conn.new)) }
-    ensures left { SeesFirstStore (state S.Store conn.old)
-        → MayCarryOver S.Store conn.old conn.new }
-    ensures unreadable { DiskKept S.Store conn.new
-        → OnUnreadable result (IsOfRegistry (state S.Store conn.old).now.schema
-        → Lists First (seen S.Store conn.old) → IsNumbered First (seen S.Store conn.old) → ⊥) }
-    ensures store { DiskKept S.Store conn.new
-        → OnStore result (ShowsList (state S.Store conn.old).now.schema
-        → (Lists First (seen S.Store conn.old) → SeesFirstStore (state S.Store conn.old))
-        → IsOpen S.Store conn.old → StoreFailed S.Store conn.old conn.new) }
+    ensures carries { CarriesOver S.Store conn.old conn.new result SeesFirstStore }
+    ensures fails { FailsToTake S.Store conn.old conn.new result First SeesFirstStore }
     ensures knows { GoesByTexts S.Store conn.old conn.new result First }
     ensures clean { WasClean S.Store conn.old conn.new }
 {

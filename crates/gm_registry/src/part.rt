@@ -1,18 +1,17 @@
 //! The part of the records that a command asks for, read by keys.
 
-ghost use Rattle.std.specs.Prelude.{◌≡◌, IfOk, OnOk, OnErr, IsPermutation, filter, map};
+ghost use Rattle.std.specs.Prelude.{◌≡◌, IfOk, OnOk, filter, map};
 ghost use Rattle.std.specs.List.{list_any};
 ghost use Rattle.gm_metadata.specs.Images.{same_label};
-ghost use Rattle.gm_state.specs.Records.{Records, name};
-ghost use Rattle.gm_state.specs.Rows.{Tables};
-ghost use Rattle.gm_registry.specs.Parts.{is_asked_by, AreAsked, AreSaidFor, IsPartFor, IsSaidFor, SayNone, SaysNoPart};
+ghost use Rattle.gm_state.specs.Records.{name};
+ghost use Rattle.gm_registry.specs.Parts.{is_asked_by, AreAsked, AreSaidFor, SaysNoPart};
 ghost use Rattle.gm_rows.specs.Queries.{shown_places};
 ghost use Rattle.gm_rows.specs.Says.{mirror_shown};
 ghost use Rattle.gm_rows.specs.Values.{columns_at, IsMirrorValue};
 ghost use Rattle.gm_rows.specs.declared.fetched.Table.TheVariants.{Mirrors};
-ghost use Rattle.gm_rows.specs.ReadableTables.{AreRecordsOf};
-ghost use Rattle.gm_registry.specs.Registry.{DiskKept, IsOpen, seen, HasTables, IsRegistry, HasRead, HasFailed, IsOurs, StoreFailed, HasSaved, Reads};
-ghost use Rattle.gm_rows.specs.Faults.{OnUnreadable, OnStore};
+ghost use Rattle.gm_registry.specs.Registry.{seen, HasRead};
+ghost use Rattle.gm_registry.specs.Tells.{LoadsPart, FailsReading, TellsRecords, TellsList};
+ghost use Rattle.gm_registry.specs.Reads.{IsOurSchema};
 
 use crate::components_by_key::{Key, components_under};
 use crate::registry::Registry;
@@ -47,23 +46,10 @@ pub(crate) fn all_mirrors<S: Alter>(
     alloc: Global,
     conn: &mut Connection<S>,
 ) -> Result<Vec<Mirror>, StoreFault>
-    ensures says { DiskKept S.Store conn.new → IfOk result (λ ms. IsOurs S.Store conn.old
-        → IsPermutation (map (columns_at (shown_places Mirrors)) (seen S.Store conn.old 1))
-        (map mirror_shown ms.items)) }
-    ensures silent { DiskKept S.Store conn.new → OnUnreadable result (IsOurs S.Store conn.old
-        → SayNone mirror_shown IsMirrorValue
-        (map (columns_at (shown_places Mirrors)) (seen S.Store conn.old 1))) }
-    ensures all { DiskKept S.Store conn.new
-        → IfOk result (λ ms. (t : Tables) (s : Records) → HasTables S.Store conn.old t
-        → AreRecordsOf t s → IsPermutation s.mirrors ms.items) }
-    ensures unreadable { DiskKept S.Store conn.new
-        → OnUnreadable result ((t : Tables) (s : Records) → HasTables S.Store conn.old t
-        → AreRecordsOf t s → ⊥) }
+    ensures tells { TellsList S.Store conn.old conn.new mirror_shown IsMirrorValue result
+        (map (columns_at (shown_places Mirrors)) (seen S.Store conn.old 1)) (λ s. s.mirrors) }
     ensures read { OnOk result (HasRead S.Store conn.old conn.new) }
-    ensures failed { OnErr result (HasFailed S.Store conn.old conn.new) }
-    ensures store { DiskKept S.Store conn.new
-        → OnStore result (IsOurs S.Store conn.old → IsOpen S.Store conn.old
-        → StoreFailed S.Store conn.old conn.new) }
+    ensures fails { FailsReading S.Store conn.old conn.new IsOurSchema result }
 {
     let rows = rows_of(conn, Table::Mirrors)?;
     read_all(alloc, &rows)
@@ -114,22 +100,12 @@ fn read_asked<S: Alter>(
     command: &Command,
     mids: &[u32],
 ) -> Result<Asked, StoreFault>
-    ensures says { DiskKept S.Store conn.new → IfOk result (λ a. IsOurs S.Store conn.old
-        → AreSaidFor (seen S.Store conn.old) command.now mids.now a.mirrors.items
-        a.components.items a.count) }
-    ensures silent { DiskKept S.Store conn.new → OnUnreadable result (IsOurs S.Store conn.old
-        → SaysNoPart (seen S.Store conn.old) command.now mids.now) }
-    ensures asked { DiskKept S.Store conn.new
-        → IfOk result (λ a. (t : Tables) (s : Records) → HasTables S.Store conn.old t
-        → AreRecordsOf t s → AreAsked s command.now mids.now a) }
-    ensures unreadable { DiskKept S.Store conn.new
-        → OnUnreadable result ((t : Tables) (s : Records) → HasTables S.Store conn.old t
-        → AreRecordsOf t s → ⊥) }
+    ensures tells { TellsRecords S.Store conn.old conn.new result (λ a. AreSaidFor
+        (seen S.Store conn.old) command.now mids.now a.mirrors.items a.components.items a.count)
+        (SaysNoPart (seen S.Store conn.old) command.now mids.now)
+        (λ s. AreAsked s command.now mids.now) }
     ensures read { OnOk result (HasRead S.Store conn.old conn.new) }
-    ensures failed { OnErr result (HasFailed S.Store conn.old conn.new) }
-    ensures store { DiskKept S.Store conn.new
-        → OnStore result (IsOurs S.Store conn.old → IsOpen S.Store conn.old
-        → StoreFailed S.Store conn.old conn.new) }
+    ensures fails { FailsReading S.Store conn.old conn.new IsOurSchema result }
 {
     let all = all_mirrors(alloc, conn)?;
     let named = components_under(alloc, conn, Key::Provider, providers_of(command))?;
@@ -151,20 +127,7 @@ fn part_on<S: Alter>(
     command: &Command,
     mids: &[u32],
 ) -> Result<Part, StoreFault>
-    ensures says { DiskKept S.Store conn.new → IfOk result (λ p. IsRegistry S.Store conn.old
-        → IsSaidFor (seen S.Store conn.old) command.now mids.now p) }
-    ensures silent { DiskKept S.Store conn.new → OnUnreadable result (IsRegistry S.Store conn.old
-        → SaysNoPart (seen S.Store conn.old) command.now mids.now) }
-    ensures part { DiskKept S.Store conn.new
-        → IfOk result (λ p. (t : Tables) (s : Records) → HasTables S.Store conn.old t
-        → AreRecordsOf t s → IsPartFor s command.now mids.now p × HasSaved S.Store conn.new t) }
-    ensures unreadable { DiskKept S.Store conn.new
-        → OnUnreadable result ((t : Tables) (s : Records) → HasTables S.Store conn.old t
-        → AreRecordsOf t s → ⊥) }
-    ensures store { DiskKept S.Store conn.new
-        → OnStore result ((t : Tables) → HasTables S.Store conn.old t
-        → StoreFailed S.Store conn.old conn.new) }
-    ensures reads { Reads S.Store conn.old conn.new }
+    ensures { LoadsPart S.Store conn.old conn.new result command.now mids.now }
 {
     a_part_is_a_state();
     let asked = read_asked(alloc, conn, command, mids)?;
@@ -186,23 +149,7 @@ impl<S: Alter> Registry<S> {
         command: &Command,
         mids: &[u32],
     ) -> Result<Part, StoreFault>
-        // Whatever rows the tables hold.
-        ensures says { DiskKept S.Store self.new → IfOk result (λ p. IsRegistry S.Store self.old
-            → IsSaidFor (seen S.Store self.old) command.now mids.now p) }
-        ensures silent { DiskKept S.Store self.new
-            → OnUnreadable result (IsRegistry S.Store self.old
-            → SaysNoPart (seen S.Store self.old) command.now mids.now) }
-        ensures part { DiskKept S.Store self.new
-            → IfOk result (λ p. (t : Tables) (s : Records) → HasTables S.Store self.old t
-            → AreRecordsOf t s → IsPartFor s command.now mids.now p × HasSaved S.Store self.new t) }
-        ensures unreadable { DiskKept S.Store self.new
-            → OnUnreadable result ((t : Tables) (s : Records) → HasTables S.Store self.old t
-            → AreRecordsOf t s → ⊥) }
-        // On a disk that didn't fail, without a limit on steps, it is never `Store`.
-        ensures store { DiskKept S.Store self.new
-            → OnStore result ((t : Tables) → HasTables S.Store self.old t
-            → StoreFailed S.Store self.old self.new) }
-        ensures reads { Reads S.Store self.old self.new }
+        ensures { LoadsPart S.Store self.old self.new result command.now mids.now }
     {
         part_on(alloc, &mut self.conn, command, mids)
     }

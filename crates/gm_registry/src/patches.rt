@@ -1,22 +1,16 @@
 //! The table of the bytes that are to be laid, of at most one record: written inside a transaction.
 
-ghost use Rattle.std.specs.Prelude.{◌≡◌, [], ◌∷◌, ⊤};
+ghost use Rattle.std.specs.Prelude.{⊤};
 ghost use Rattle.gm_registry.specs.Changes.{with_patch, with_bytes, without_bytes};
 ghost use Rattle.gm_registry.specs.Fitting.{TakesBytes, TakesPatch};
-ghost use Rattle.gm_registry.specs.Registry.{LeavesNothingNew, KeepsCommit, MakesInside, FailsInside, NumbersInside};
+ghost use Rattle.gm_registry.specs.Registry.{ChangesInside};
 
 use sqlite::{Alter, Error, Transaction, params};
 
 /// Adds the record of bytes.
 fn put_row<S: Alter>(tx: &mut Transaction<'_, S>, bytes: &[u8]) -> Result<usize, Error>
-    ensures same_reference { tx.new.conn.ghost_name ≡ tx.old.conn.ghost_name }
-    ensures put { MakesInside S.Store tx.old.conn.now tx.new.conn.now result
-        (with_patch bytes.now) }
-    ensures fails { FailsInside S.Store tx.old.conn.now tx.new.conn.now result
-        (λ _. TakesPatch bytes.now) }
-    ensures numbers { NumbersInside S.Store tx.old.conn.now tx.new.conn.now result 0 }
-    ensures kept { KeepsCommit S.Store tx.old.conn.now tx.new.conn.now }
-    ensures survives { LeavesNothingNew S.Store tx.old.conn.now tx.new.conn.now }
+    ensures { ChangesInside S.Store tx.old tx.new result (with_patch bytes.now)
+        (λ _. TakesPatch bytes.now) 0 }
 {
     tx.execute(
         "INSERT INTO patches (one, bytes) VALUES (1, ?1)",
@@ -29,14 +23,8 @@ pub(crate) fn put_bytes<S: Alter>(
     tx: &mut Transaction<'_, S>,
     bytes: &[[u8; 512]],
 ) -> Result<(), Error>
-    ensures same_reference { tx.new.conn.ghost_name ≡ tx.old.conn.ghost_name }
-    ensures put { MakesInside S.Store tx.old.conn.now tx.new.conn.now result
-        (with_bytes bytes.now) }
-    ensures fails { FailsInside S.Store tx.old.conn.now tx.new.conn.now result
-        (λ _. TakesBytes bytes.now) }
-    ensures numbers { NumbersInside S.Store tx.old.conn.now tx.new.conn.now result 0 }
-    ensures kept { KeepsCommit S.Store tx.old.conn.now tx.new.conn.now }
-    ensures survives { LeavesNothingNew S.Store tx.old.conn.now tx.new.conn.now }
+    ensures { ChangesInside S.Store tx.old tx.new result (with_bytes bytes.now)
+        (λ _. TakesBytes bytes.now) 0 }
 {
     if bytes.is_empty() {
         return Ok(());
@@ -47,12 +35,7 @@ pub(crate) fn put_bytes<S: Alter>(
 
 /// Deletes all bytes.
 pub(crate) fn drop_bytes<S: Alter>(tx: &mut Transaction<'_, S>) -> Result<usize, Error>
-    ensures same_reference { tx.new.conn.ghost_name ≡ tx.old.conn.ghost_name }
-    ensures put { MakesInside S.Store tx.old.conn.now tx.new.conn.now result without_bytes }
-    ensures fails { FailsInside S.Store tx.old.conn.now tx.new.conn.now result (λ _ _. ⊤) }
-    ensures numbers { NumbersInside S.Store tx.old.conn.now tx.new.conn.now result 0 }
-    ensures kept { KeepsCommit S.Store tx.old.conn.now tx.new.conn.now }
-    ensures survives { LeavesNothingNew S.Store tx.old.conn.now tx.new.conn.now }
+    ensures { ChangesInside S.Store tx.old tx.new result without_bytes (λ _ _. ⊤) 0 }
 {
     tx.execute("DELETE FROM patches", &[])
 }

@@ -1,15 +1,15 @@
 //! The calls of a registry.
 
-ghost use Rattle.std.specs.Prelude.{◌≡◌, ◌≢◌, ◌≤◌, ◌+◌, false, IfOk, IfErr, IfSome, MatchOption, MatchResult, string_bytes};
-ghost use Rattle.gm_state.specs.Rows.{Tables, copied_of, total_of};
+ghost use Rattle.std.specs.Prelude.{◌≡◌, ◌≢◌, false, IfErr, MatchResult};
+ghost use Rattle.gm_state.specs.Rows.{Tables};
 ghost use Rattle.gm_registry.specs.Opens.{OpensTo};
 ghost use Rattle.gm_registry.specs.Accepting.{Accepts};
 ghost use Rattle.gm_registry.specs.Changes.{with_accepted, with_pending, settled};
-ghost use Rattle.gm_registry.specs.Replies.{IsKept, IsFree, AreWrittenUnder, count_of};
-ghost use Rattle.gm_registry.specs.Registry.{DiskKept, IsOpen, HasTables, WasClean, StoreFailed, HasSaved, Reads, Writes};
-ghost use Rattle.gm_rows.specs.Faults.{OnUnreadable, OnStore};
+ghost use Rattle.gm_registry.specs.Registry.{DiskKept, IsOpen, HasTables, WasClean, StoreFailed, Writes};
+ghost use Rattle.gm_rows.specs.Faults.{OnStore};
+ghost use Rattle.gm_registry.specs.Tells.{CountsCommands, FindsReply};
 
-use crate::accept::accept_on;
+use crate::accept::{Entry, accept_on};
 use crate::intents::{Pending, settle_on};
 use crate::open_store::prepare;
 use crate::replies::{accepted_on, reply_on};
@@ -69,38 +69,14 @@ impl<S: Alter> Registry<S> {
     /// The number, the words and the reply of the command under a key. `Memory`, `Store` as of any
     /// call; `Unreadable` if the row isn't one that this crate writes.
     pub fn reply_of(&mut self, key: &str) -> Result<Option<(u64, String, Reply)>, StoreFault>
-        ensures found { DiskKept S.Store self.new
-            → IfOk result (λ found. (t : Tables) → HasTables S.Store self.old t
-            → MatchOption found (IsFree t key.now)
-            (λ it. IsKept t key.now it.0 (string_bytes it.1) it.2) × HasSaved S.Store self.new t) }
-        // A row whose reply is out of range is `Unreadable`.
-        ensures range { IfOk result (λ found. IfSome found
-            (λ it. (copied_of it.2 ≤ 1048576) × (total_of it.2 ≤ 1048576))) }
-        ensures unreadable { DiskKept S.Store self.new
-            → OnUnreadable result ((t : Tables) → HasTables S.Store self.old t
-            → AreWrittenUnder key.now t → ⊥) }
-        // On a disk that didn't fail, without a limit on steps, it is never `Store`.
-        ensures store { DiskKept S.Store self.new
-            → OnStore result ((t : Tables) → HasTables S.Store self.old t
-            → StoreFailed S.Store self.old self.new) }
-        ensures reads { Reads S.Store self.old self.new }
+        ensures { FindsReply S.Store self.old self.new result key.now }
     {
         reply_on(&mut self.conn, key)
     }
 
     /// How many commands were accepted.
     pub fn accepted(&mut self) -> Result<u64, StoreFault>
-        ensures count { DiskKept S.Store self.new
-            → IfOk result (λ n. (t : Tables) → HasTables S.Store self.old t
-            → (n ≡ count_of t) × HasSaved S.Store self.new t) }
-        ensures unreadable { DiskKept S.Store self.new
-            → OnUnreadable result ((t : Tables) → HasTables S.Store self.old t
-            → count_of t ≤ 100000 → ⊥) }
-        // On a disk that didn't fail, without a limit on steps, it is never `Store`.
-        ensures store { DiskKept S.Store self.new
-            → OnStore result ((t : Tables) → HasTables S.Store self.old t
-            → StoreFailed S.Store self.old self.new) }
-        ensures reads { Reads S.Store self.old self.new }
+        ensures { CountsCommands S.Store self.old self.new result }
     {
         Ok(u64::from(accepted_on(&mut self.conn)?))
     }
@@ -114,16 +90,14 @@ impl<S: Alter> Registry<S> {
         ensures writes { Writes S.Store self.old self.new result
             (with_accepted change.now key.now words.now) }
     {
-        let pending = Pending::Stays;
-        accept_on(
-            &mut self.conn,
+        let entry = Entry {
             change,
-            change.intents(),
-            change.bytes(),
-            pending,
+            intents: change.intents(),
+            bytes: change.bytes(),
             key,
             words,
-        )
+        };
+        accept_on(&mut self.conn, &entry, Pending::Stays)
     }
 
     /// The same with these intents and bytes in place of the change's own and of all that are
@@ -141,8 +115,14 @@ impl<S: Alter> Registry<S> {
         ensures writes { Writes S.Store self.old self.new result (λ t. with_accepted
             (with_pending change.now intents.now bytes.now) key.now words.now (settled t)) }
     {
-        let pending = Pending::Goes;
-        accept_on(&mut self.conn, change, intents, bytes, pending, key, words)
+        let entry = Entry {
+            change,
+            intents,
+            bytes,
+            key,
+            words,
+        };
+        accept_on(&mut self.conn, &entry, Pending::Goes)
     }
 
     /// Deletes the pending intents and the bytes that they lay, in one transaction.

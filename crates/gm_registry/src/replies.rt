@@ -1,12 +1,13 @@
 //! What is read of the accepted commands: the reply under a key, and the greatest number.
 
-ghost use Rattle.std.specs.Prelude.{◌≡◌, ◌≢◌, ◌≤◌, ◌<◌, ◌^◌, ◌==◌, ℕ, pos, filter, map, string_bytes, IfOk, IfErr, IfSome, OnOk, MatchOption, IsPermutation};
+ghost use Rattle.std.specs.Prelude.{◌≡◌, ◌≢◌, ◌≤◌, ◌<◌, ◌^◌, ℕ, pos, filter, map, string_bytes, IfOk, IfErr, OnOk, IsPermutation};
 ghost use Rattle.sqlite.specs.Order.{column};
 ghost use Rattle.sqlite.specs.declared.types.Value.TheVariants.{Int, Text};
-ghost use Rattle.gm_state.specs.Rows.{Tables, CommandRow, copied_of, total_of};
-ghost use Rattle.gm_registry.specs.Replies.{Fits, AreWrittenUnder, reply_in, is_under, reply_values, IsKept, IsFree, IsLastOf, count_of};
-ghost use Rattle.gm_registry.specs.Registry.{DiskKept, HasTables, seen, StoreFailed, HasSaved, Reads};
-ghost use Rattle.gm_rows.specs.Faults.{OnUnreadable, OnStore, OnOther};
+ghost use Rattle.gm_state.specs.Rows.{Tables, CommandRow};
+ghost use Rattle.gm_registry.specs.Replies.{Fits, reply_in, is_under, reply_values, IsLastOf};
+ghost use Rattle.gm_registry.specs.Registry.{DiskKept, HasTables, seen, StoreFailed, Reads};
+ghost use Rattle.gm_rows.specs.Faults.{OnUnreadable, OnOther};
+ghost use Rattle.gm_registry.specs.Tells.{CountsCommands, FindsReply};
 
 use gm_rows::{StoreFault, text_at, u32_at};
 use gm_state::{MAX_SECTORS, Reply};
@@ -100,19 +101,7 @@ pub(crate) fn reply_on<S: Alter>(
     conn: &mut Connection<S>,
     key: &str,
 ) -> Result<Option<(u64, String, Reply)>, StoreFault>
-    ensures found { DiskKept S.Store conn.new
-        → IfOk result (λ found. (t : Tables) → HasTables S.Store conn.old t
-        → MatchOption found (IsFree t key.now)
-        (λ it. IsKept t key.now it.0 (string_bytes it.1) it.2) × HasSaved S.Store conn.new t) }
-    ensures range { IfOk result (λ found. IfSome found
-        (λ it. (copied_of it.2 ≤ 1048576) × (total_of it.2 ≤ 1048576))) }
-    ensures unreadable { DiskKept S.Store conn.new
-        → OnUnreadable result ((t : Tables) → HasTables S.Store conn.old t
-        → AreWrittenUnder key.now t → ⊥) }
-    ensures store { DiskKept S.Store conn.new
-        → OnStore result ((t : Tables) → HasTables S.Store conn.old t
-        → StoreFailed S.Store conn.old conn.new) }
-    ensures reads { Reads S.Store conn.old conn.new }
+    ensures { FindsReply S.Store conn.old conn.new result key.now }
 {
     let rows = find_command(conn, key)?;
     match rows.first() {
@@ -141,18 +130,9 @@ fn last_command<S: Alter>(conn: &mut Connection<S>) -> Result<Vec<Row>, Error>
 
 /// How many commands were accepted: the greatest number, since they count from 1 without gaps.
 pub(crate) fn accepted_on<S: Alter>(conn: &mut Connection<S>) -> Result<u32, StoreFault>
-    ensures count { DiskKept S.Store conn.new
-        → IfOk result (λ n. (t : Tables) → HasTables S.Store conn.old t
-        → (n ≡ count_of t) × HasSaved S.Store conn.new t) }
-    ensures unreadable { DiskKept S.Store conn.new
-        → OnUnreadable result ((t : Tables) → HasTables S.Store conn.old t → count_of t ≤ 100000
-        → ⊥) }
-    ensures store { DiskKept S.Store conn.new
-        → OnStore result ((t : Tables) → HasTables S.Store conn.old t
-        → StoreFailed S.Store conn.old conn.new) }
+    ensures counts { CountsCommands S.Store conn.old conn.new result }
     ensures same { DiskKept S.Store conn.new → OnOk result ((t : Tables)
         → HasTables S.Store conn.old t → seen S.Store conn.new ≡ seen S.Store conn.old) }
-    ensures reads { Reads S.Store conn.old conn.new }
 {
     let rows = last_command(conn)?;
     match rows.first() {

@@ -1,10 +1,10 @@
 -- A write of one sector and a sync after it.
-use Rattle.std.proofs.Common.{subst, ◌≡◌, ◌∙◌, inl, inr, ⊎_elim, ℕ, List, refl, sym}
+use Rattle.std.proofs.Common.{◌≡◌, ◌∙◌, inl, inr, ⊎_elim, ℕ, List, refl, sym}
 use Rattle.std.proofs.lemmas.Bool.Decides.{eqb_tells}
 use Rattle.gm_metadata.specs.declared.label.Label.{Label}
 use Rattle.gm_metadata.specs.Images.{Image, Same, put, label_tells, label_refl}
-use Rattle.gm_shelf.specs.Disk.{View, Answer, IsPut, Torn, IsQuiet, IsWrite, IsFixed}
-use Rattle.gm_shelf.specs.LastSector.{IsDone, WritesThenSyncs}
+use Rattle.gm_shelf.specs.Disk.{View, IsPut, Torn, IsQuiet, IsWrite, IsFixed}
+use Rattle.gm_shelf.specs.LastSector.{IsDone}
 
 -- an image that was torn at the sector and is fixed has the new value there
 fixed_torn : (p : Label) (i : ℕ) (s : List ℕ) (d x seen : Image) → Torn p i s d x
@@ -44,12 +44,3 @@ last_done p i s old mid new law written quiet fix = record {
       );
   fixed = λ x left j. fix x left j ∙ sym (quiet.seen p j);
 }
-
--- the same calls, by an equal sector and an equal answer
-pub same_calls : {S : Type 0} (write_gives : List ℕ → Answer → S → S → Type 0) (sync_gives : Answer
-    → S → S → Type 0) (s t : List ℕ) (a b : Answer) (old new : S) → s ≡ t → a ≡ b
-    → WritesThenSyncs (write_gives s) sync_gives a old new
-    → WritesThenSyncs (write_gives t) sync_gives b old new
-same_calls write_gives sync_gives s t a b old new sector answer calls =
-    subst (λ (r : Answer). WritesThenSyncs (write_gives t) sync_gives r old new) answer
-    (subst (λ (x : List ℕ). WritesThenSyncs (write_gives x) sync_gives a old new) sector calls)

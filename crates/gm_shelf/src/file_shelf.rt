@@ -5,6 +5,7 @@ ghost use Rattle.gm_shelf.specs.Disk.{View, faults_after};
 ghost use Rattle.gm_shelf.specs.FileFaults.{WantsMemory};
 ghost use Rattle.gm_shelf.specs.Faults.{fault_after};
 ghost use Rattle.gm_shelf.specs.Folder.{unknown, sectors_of};
+ghost use Rattle.gm_shelf.specs.Keeping.{TellsNoLack};
 
 use crate::failure::{FileFault, ImageFailure, cause_of};
 use crate::fault::{ShelfFault, check_run, device_failed};
@@ -136,8 +137,7 @@ fn outcome(
     ensures named { IsErrOf result ShelfFault.Device
         → IsSomeAnd last.new (λ failure. failure.image ≡ image) }
     ensures kept { IsOk done → last.new ≡ last.old }
-    ensures not_absent { IsErrOf result ShelfFault.Absent → ⊥ }
-    ensures not_range { IsErrOf result ShelfFault.Range → ⊥ }
+    ensures there { TellsNoLack result }
 {
     let fault = match done {
         Ok(()) => return Ok(()),

@@ -1,10 +1,9 @@
 //! The last sector of a provider: read, and written so that it is old or new at every moment.
 
-ghost use Rattle.std.specs.Prelude.{◌≡◌, ◌≤◌, ◌<◌, ◌+◌, ◌↔◌, ◌⊎◌, ℕ, Some, None, IfOk, OnOk, IsErrOf};
+ghost use Rattle.std.specs.Prelude.{◌≡◌, ◌↔◌, ◌⊎◌, Some, None, IfOk};
 ghost use Rattle.gm_metadata.specs.Reading.{encoded};
-ghost use Rattle.gm_shelf.specs.Disk.{faults_after};
-ghost use Rattle.gm_shelf.specs.LastSector.{OldOrNew, IsDone, WritesThenSyncs, last_sector};
-ghost use Rattle.gm_shelf.specs.Keeping.{Keeps, Looks};
+ghost use Rattle.gm_shelf.specs.LastSector.{WritesLast, last_sector};
+ghost use Rattle.gm_shelf.specs.Keeping.{Looks};
 
 use crate::fault::ShelfFault;
 use crate::shelf::Shelf;
@@ -35,27 +34,7 @@ pub fn write_last<H: Shelf>(
     provider: Label,
     sector: &[u8; 512],
 ) -> Result<(), ShelfFault>
-    // At Ok the sector is fixed, and at every moment of the call it was old or new.
-    ensures done { (i : ℕ) → H.honest shelf.old → H.size shelf.old provider ≡ Some (i + 1) →
-        OnOk result (IsDone provider i sector.now (H.view shelf.old) (H.view shelf.new)) }
-    ensures moments { (i : ℕ) → H.honest shelf.old → H.size shelf.old provider ≡ Some (i + 1) →
-        OldOrNew provider i sector.now (H.view shelf.old) (H.view shelf.new) }
-
-    ensures absent { IsErrOf result ShelfFault.Absent ↔ (H.size shelf.old provider ≡ None) }
-    ensures range { IsErrOf result ShelfFault.Range ↔ (H.size shelf.old provider ≡ Some 0) }
-    ensures nothing_done { (H.size shelf.old provider ≡ None)
-        ⊎ (H.size shelf.old provider ≡ Some 0) →
-        shelf.new ≡ shelf.old }
-    ensures device { IsErrOf result ShelfFault.Device →
-        (H.view shelf.old).faults < (H.view shelf.new).faults }
-
-    // It writes once and syncs once, and does nothing else.
-    ensures calls { (i : ℕ) → H.size shelf.old provider ≡ Some (i + 1) → WritesThenSyncs
-        (λ answer old new. H.write_gives old provider i sector.now answer new)
-        (λ answer old new. H.sync_gives old provider answer new) result shelf.old shelf.new }
-
-    ensures keeps { Keeps H.Shelf shelf.old shelf.new }
-    ensures counted { (H.view shelf.new).faults ≡ faults_after result (H.view shelf.old).faults }
+    ensures { WritesLast H.Shelf shelf.old shelf.new result provider sector.now }
 {
     let Some(count) = shelf.sectors(provider) else {
         return Err(ShelfFault::Absent);
@@ -74,28 +53,7 @@ pub fn write_meta<H: Shelf>(
     provider: Label,
     metadata: &Metadata,
 ) -> Result<(), ShelfFault>
-    // At Ok the sector is fixed, and at every moment of the call it was old or new.
-    ensures done { (i : ℕ) → H.honest shelf.old → H.size shelf.old provider ≡ Some (i + 1) →
-        OnOk result (
-        IsDone provider i (encoded metadata.now) (H.view shelf.old) (H.view shelf.new)) }
-    ensures moments { (i : ℕ) → H.honest shelf.old → H.size shelf.old provider ≡ Some (i + 1) →
-        OldOrNew provider i (encoded metadata.now) (H.view shelf.old) (H.view shelf.new) }
-
-    ensures absent { IsErrOf result ShelfFault.Absent ↔ (H.size shelf.old provider ≡ None) }
-    ensures range { IsErrOf result ShelfFault.Range ↔ (H.size shelf.old provider ≡ Some 0) }
-    ensures nothing_done { (H.size shelf.old provider ≡ None)
-        ⊎ (H.size shelf.old provider ≡ Some 0) →
-        shelf.new ≡ shelf.old }
-    ensures device { IsErrOf result ShelfFault.Device →
-        (H.view shelf.old).faults < (H.view shelf.new).faults }
-
-    // It writes once and syncs once, and does nothing else.
-    ensures calls { (i : ℕ) → H.size shelf.old provider ≡ Some (i + 1) → WritesThenSyncs
-        (λ answer old new. H.write_gives old provider i (encoded metadata.now) answer new)
-        (λ answer old new. H.sync_gives old provider answer new) result shelf.old shelf.new }
-
-    ensures keeps { Keeps H.Shelf shelf.old shelf.new }
-    ensures counted { (H.view shelf.new).faults ≡ faults_after result (H.view shelf.old).faults }
+    ensures { WritesLast H.Shelf shelf.old shelf.new result provider (encoded metadata.now) }
 {
     write_last(shelf, provider, &encode(metadata))
 }

@@ -166,7 +166,7 @@ IsStill g h old new due =
 
 -- A call that only looks keeps both media; if it succeeds, they hold what they held, and the bench
 -- is as far as it was.
-pub record OnlyLooks {S H T : Type 0} (g : StoreGhosts S) (h : ShelfGhosts H) (old new : Bench S H)
+pub record KeepsMedia {S H T : Type 0} (g : StoreGhosts S) (h : ShelfGhosts H) (old new : Bench S H)
     (result : Result T BenchFault) : Type 0 where
   pub keep : Keep g h (registry_of old) (registry_of new) (shelf_of old) (shelf_of new)
   pub does : h.honest (shelf_of old) → DiskKept g (registry_of new)

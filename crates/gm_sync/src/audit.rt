@@ -4,7 +4,7 @@ ghost use Rattle.std.specs.Prelude.{◌≡◌, true, false, filter, IfErr, IfOk}
 ghost use Rattle.gm_registry.specs.Registry.{DiskKept};
 ghost use Rattle.gm_bench.specs.Benches.{progress_of, registry_of, shelf_of};
 ghost use Rattle.gm_bench.specs.Phases.{TakesCommands};
-ghost use Rattle.gm_sync.specs.Filling.{FailsAsCalls, IsPassedOverAt, OnlyLooks};
+ghost use Rattle.gm_sync.specs.Filling.{FailsAsCalls, IsPassedOverAt, KeepsMedia};
 ghost use Rattle.gm_sync.specs.Scopes.{PassesNone, has_image, is_component_of, is_named_beside, mirrors_of};
 
 use crate::passed_over::PassedOver;
@@ -101,7 +101,7 @@ pub(crate) fn amiss<S: Alter, H: Shelf>(
 ) -> Result<PassedOver, BenchFault>
     requires { TakesCommands (progress_of bench.old) }
     ensures phase { TakesCommands (progress_of bench.new) }
-    ensures looks { OnlyLooks S.Store H.Shelf bench.old bench.new result }
+    ensures looks { KeepsMedia S.Store H.Shelf bench.old bench.new result }
     ensures told { audits ≡ true → H.honest (shelf_of bench.old)
         → DiskKept S.Store (registry_of bench.new)
         → IfOk result (IsPassedOverAt S.Store H.Shelf bench.old scope.now) }

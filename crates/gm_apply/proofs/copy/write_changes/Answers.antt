@@ -3,48 +3,61 @@ use Rattle.gm_metadata.specs.Images.{Same}
 use Rattle.gm_shelf.specs.Disk.{sector_of}
 use Rattle.gm_shelf.proofs.Keeping.{keeps_then}
 use Rattle.gm_shelf.proofs.Runs.{put_upto}
-use Rattle.gm_apply.proofs.Stretches.{stretch_law, stretch_seen, rest_seen, put_same}
+use Rattle.gm_apply.proofs.Stretches.{none_held, stretch_law, stretch_seen, rest_seen, put_same}
 use Rattle.gm_apply.proofs.copy.write_changes.Goals as goal
 use Rattle.gm_apply.proofs.copy.write_changes.Goals.{then-same+in_ok-write_stretch, else-same}
 
-pub returns-in_err-write_stretch-clause-law : goal.returns-in_err-write_stretch-clause-law
-returns-in_err-write_stretch-clause-law g c h =
+pub returns-in_err-write_stretch : goal.returns-in_err-write_stretch
+returns-in_err-write_stretch g c =
     let shelf = g.H.Shelf in
     let inv = c.loop-index.invariant in
-    stretch_law c.args.target c.args.first c.args.run.now c.loop-index.from
-    (c.loop-index.index - c.loop-index.from) (omega (arith, inv.behind))
-    (shelf.view c.args.shelf.now) (shelf.view c.loop-index.shelf)
-    (shelf.view c.write_stretch.new.shelf) (inv.law h)
-    (c.write_stretch.ensures.law (inv.keeps.honest h))
+    record {
+      written = search rules;
+      law = λ h. stretch_law c.args.target c.args.first c.args.run.now c.loop-index.from
+          (c.loop-index.index - c.loop-index.from) (omega (arith, inv.behind))
+          (shelf.view c.args.shelf.now) (shelf.view c.loop-index.shelf)
+          (shelf.view c.write_stretch.new.shelf) (inv.law h)
+          (c.write_stretch.ensures.law (inv.keeps.honest h));
+      fails = search rules;
+      keeps = search rules;
+    }
 
-pub returns-in_err-write_stretch-2-clause-law : goal.returns-in_err-write_stretch-2-clause-law
-returns-in_err-write_stretch-2-clause-law g c h =
+pub returns-in_err-write_stretch-2 : goal.returns-in_err-write_stretch-2
+returns-in_err-write_stretch-2 g c =
     let shelf = g.H.Shelf in
     let inv = c.loop-index.invariant in
-    stretch_law c.args.target c.args.first c.args.run.now c.loop-index.from
-    (length c.args.run.now - c.loop-index.from) (omega (arith, inv.behind))
-    (shelf.view c.args.shelf.now) (shelf.view c.loop-index.shelf)
-    (shelf.view c.write_stretch-2.new.shelf) (inv.law h)
-    (c.write_stretch-2.ensures.law (inv.keeps.honest h))
+    record {
+      written = search rules;
+      law = λ h. stretch_law c.args.target c.args.first c.args.run.now c.loop-index.from
+          (length c.args.run.now - c.loop-index.from) (omega (arith, inv.behind))
+          (shelf.view c.args.shelf.now) (shelf.view c.loop-index.shelf)
+          (shelf.view c.write_stretch-2.new.shelf) (inv.law h)
+          (c.write_stretch-2.ensures.law (inv.keeps.honest h));
+      fails = search rules;
+      keeps = search rules;
+    }
 
-pub returns-clause-law : goal.returns-clause-law
-returns-clause-law g c h =
+pub returns : goal.returns
+returns g c =
     let shelf = g.H.Shelf in
     let inv = c.loop-index.invariant in
-    stretch_law c.args.target c.args.first c.args.run.now c.loop-index.from
-    (length c.args.run.now - c.loop-index.from) (omega (arith, inv.behind))
-    (shelf.view c.args.shelf.now) (shelf.view c.loop-index.shelf)
-    (shelf.view c.write_stretch-2.new.shelf) (inv.law h)
-    (c.write_stretch-2.ensures.law (inv.keeps.honest h))
-
-pub returns-clause-written : goal.returns-clause-written
-returns-clause-written g c h held =
-    let shelf = g.H.Shelf in
-    let inv = c.loop-index.invariant in
-    rest_seen c.args.target c.args.first c.args.run.now c.loop-index.from
-    (shelf.view c.args.shelf.now).seen (shelf.view c.loop-index.shelf).seen
-    (shelf.view c.write_stretch-2.new.shelf).seen (omega (arith, inv.behind)) (inv.seen h held)
-    (c.in_ok-write_stretch-2.ensures.written (inv.keeps.honest h))
+    record {
+      written = λ h held.
+          rest_seen c.args.target c.args.first c.args.run.now c.loop-index.from
+          (shelf.view c.args.shelf.now).seen (shelf.view c.loop-index.shelf).seen
+          (shelf.view c.write_stretch-2.new.shelf).seen (omega (arith, inv.behind))
+          (inv.seen h held)
+          (c.in_ok-write_stretch-2.ensures.written (inv.keeps.honest h)
+          (none_held c.args.target (c.args.first + c.loop-index.from)
+          (shelf.view c.loop-index.shelf).seen));
+      law = λ h. stretch_law c.args.target c.args.first c.args.run.now c.loop-index.from
+          (length c.args.run.now - c.loop-index.from) (omega (arith, inv.behind))
+          (shelf.view c.args.shelf.now) (shelf.view c.loop-index.shelf)
+          (shelf.view c.write_stretch-2.new.shelf) (inv.law h)
+          (c.write_stretch-2.ensures.law (inv.keeps.honest h));
+      fails = search rules;
+      keeps = search rules;
+    }
 
 pub loop-index-preserved : goal.loop-index-preserved
 loop-index-preserved g c =
@@ -73,7 +86,9 @@ loop-index-preserved g c =
                 (c.loop-index.index - c.loop-index.from) (omega (arith, inv.behind))
                 old.seen (shelf.view c.loop-index.shelf).seen
                 (shelf.view w.write_stretch.new.shelf).seen
-                (inv.seen h held) (w.in_ok-write_stretch.ensures.written (inv.keeps.honest h))));
+                (inv.seen h held) (w.in_ok-write_stretch.ensures.written (inv.keeps.honest h)
+                (none_held c.args.target (c.args.first + c.loop-index.from)
+                (shelf.view c.loop-index.shelf).seen))));
           })
       | else-same w ↦ rw (w.shelf-is, w.from-is) (record {
         behind = omega (arith, inv.behind);

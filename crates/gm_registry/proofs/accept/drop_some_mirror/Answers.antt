@@ -1,11 +1,14 @@
-use Rattle.gm_registry.proofs.InsideFails.{passed_on}
+use Rattle.gm_registry.proofs.InsideCalls.{all_done, did, no_call, then_fails}
+use Rattle.std.proofs.Common.{arith}
 use Rattle.gm_registry.proofs.accept.drop_some_mirror.Goals as goal
 
-pub returns-in_ok-drop_mirror-clause-put : goal.returns-in_ok-drop_mirror-clause-put
-returns-in_ok-drop_mirror-clause-put g c clean first t was =
-    rw (c.in-Some.is) (c.in_ok-drop_mirror.ensures.put clean first t was)
+pub returns-in_ok-drop_mirror : goal.returns-in_ok-drop_mirror
+returns-in_ok-drop_mirror g c =
+    rw (c.in-Some.is) (all_done g.S.Store _ _ _ (did g.S.Store c.in_ok-drop_mirror.ensures)
+    (λ first t is. is) (omega arith))
 
-pub returns-in_err-drop_mirror-clause-fails : goal.returns-in_err-drop_mirror-clause-fails
-returns-in_err-drop_mirror-clause-fails g c clean =
-    rw (c.in-Some.is) (passed_on c.from_residual.result c.in_err-drop_mirror.field-0.0 _
-    c.from_residual.ensures.1 (c.in_err-drop_mirror.ensures.fails clean))
+pub returns-in_err-drop_mirror : goal.returns-in_err-drop_mirror
+returns-in_err-drop_mirror g c =
+    rw (c.in-Some.is) (then_fails g.S.Store c.from_residual.result _ _ _
+    (no_call g.S.Store c.args.tx.now) c.in_err-drop_mirror.ensures (λ t fits room. fits)
+    c.from_residual.ensures.1)

@@ -1,19 +1,21 @@
+use Rattle.std.proofs.Common.{rules}
 use Rattle.sqlite.specs.Held.{state}
 use Rattle.sqlite_rows.proofs.Statements.{keeps_held}
 use Rattle.gm_registry.proofs.CarryingOver.{at_dropped, drop_fails}
 use Rattle.gm_registry.proofs.carry_over.drop_about.Goals as goal
 
-pub returns-clause-made : goal.returns-clause-made
-returns-clause-made g c clean =
-    at_dropped (state g.S.Store c.args.tx.now.conn.now)
-    (state g.S.Store c.execute.new.self.conn.now)
-    c.execute.result (c.execute.ensures.runs clean)
-
-pub returns-clause-fails : goal.returns-clause-fails
-returns-clause-fails g c clean =
-    drop_fails (state g.S.Store c.args.tx.now.conn.now)
-    (state g.S.Store c.execute.new.self.conn.now)
-    c.execute.result (c.execute.ensures.runs clean)
+pub returns-clause-leads : goal.returns-clause-leads
+returns-clause-leads g c =
+    record {
+      same_reference = search rules;
+      made = λ clean. at_dropped (state g.S.Store c.args.tx.now.conn.now)
+          (state g.S.Store c.execute.new.self.conn.now)
+          c.execute.result (c.execute.ensures.runs clean);
+      fails = λ clean. drop_fails (state g.S.Store c.args.tx.now.conn.now)
+          (state g.S.Store c.execute.new.self.conn.now)
+          c.execute.result (c.execute.ensures.runs clean);
+      survives = search rules;
+    }
 
 pub returns-clause-kept : goal.returns-clause-kept
 returns-clause-kept g c clean =

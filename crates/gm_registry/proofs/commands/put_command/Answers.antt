@@ -1,7 +1,7 @@
 use Rattle.gm_registry.proofs.commands.put_command.Goals as goal
 
-pub returns-in-Plain-clause-put : goal.returns-in-Plain-clause-put
-returns-in-Plain-clause-put g c = rw (c.in-Plain.is) (c.put_row.ensures.put)
+pub returns-in-Plain : goal.returns-in-Plain
+returns-in-Plain g c = rw (c.in-Plain.is) c.put_row.ensures
 
-pub returns-in-Copied-clause-put : goal.returns-in-Copied-clause-put
-returns-in-Copied-clause-put g c = rw (c.in-Copied.is) (c.put_row-in-Copied.ensures.put)
+pub returns-in-Copied : goal.returns-in-Copied
+returns-in-Copied g c = rw (c.in-Copied.is) c.put_row-in-Copied.ensures

@@ -1,3 +1,4 @@
+use Rattle.std.proofs.Common.{rules}
 use Rattle.std.proofs.Common.{◌∙◌, [], inl, inr, refl, sym, subst, flat_map, IsPermutation}
 use Rattle.std.proofs.lemmas.List.{take_all}
 use Rattle.std.proofs.lemmas.List.Sorted.{IsPermutation-refl}
@@ -31,38 +32,61 @@ labels-init g c = record {
       (sym c.new-all.ensures.items) (IsPermutation-refl []);
 }
 
-pub returns-in_err-some-clause-unreadable : goal.returns-in_err-some-clause-unreadable
-returns-in_err-some-clause-unreadable g c clean =
-    let early = failed_clean (state g.S.Store c.labels.conn)
-    (state g.S.Store c.components_with.new.conn) c.in_err-some.ensures.failed clean in
-    passed_on c.from_residual.result _ _ (λ e same is t s was of.
-    c.in_err-some.ensures.unreadable clean (sym same ∙ is) t s
-    (some_stay g.S.Store c.args.conn.now c.labels.conn t c.labels.invariant.read early was) of)
-    c.from_residual.ensures.1
+pub returns-in_err-some-clause-tells : goal.returns-in_err-some-clause-tells
+returns-in_err-some-clause-tells g c =
+    record {
+      says = search rules;
+      silent = λ clean.
+          let early = failed_clean (state g.S.Store c.labels.conn)
+          (state g.S.Store c.components_with.new.conn) c.in_err-some.ensures.fails.failed clean in
+          let label = c.label-item.result in
+          passed_on c.from_residual.result _ _ (λ e same is known.
+          none_under component_shown IsComponentValue
+          (shown_under (seen g.S.Store c.args.conn.now) c.args.key) c.args.labels.now label
+          (Contains-Has c.args.labels.now label c.labels.label-index c.labels-test.true
+          (sym c.label-item.is))
+          (some_carried g.S.Store c.args.conn.now c.labels.conn
+          (λ trees. SayNone component_shown IsComponentValue (shown_under trees c.args.key label))
+          c.labels.invariant.read early (c.in_err-some.ensures.tells.silent clean (sym same ∙ is))
+          known))
+          c.from_residual.ensures.1;
+      found = search rules;
+      unreadable = λ clean.
+          let early = failed_clean (state g.S.Store c.labels.conn)
+          (state g.S.Store c.components_with.new.conn) c.in_err-some.ensures.fails.failed clean in
+          passed_on c.from_residual.result _ _ (λ e same is t s was of.
+          c.in_err-some.ensures.tells.unreadable clean (sym same ∙ is) t s
+          (some_stay g.S.Store c.args.conn.now c.labels.conn t c.labels.invariant.read early was)
+          of)
+          c.from_residual.ensures.1;
+    }
 
-pub returns-in_err-some-clause-failed : goal.returns-in_err-some-clause-failed
-returns-in_err-some-clause-failed g c =
-    on_err c.from_residual.result _
-    (some_failed g.S.Store c.args.conn.now c.labels.conn c.components_with.new.conn
-    c.labels.invariant.read c.in_err-some.ensures.failed)
+pub returns-in_err-some-clause-fails : goal.returns-in_err-some-clause-fails
+returns-in_err-some-clause-fails g c =
+    record {
+      failed = on_err c.from_residual.result _
+          (some_failed g.S.Store c.args.conn.now c.labels.conn c.components_with.new.conn
+          c.labels.invariant.read c.in_err-some.ensures.fails.failed);
+      store = λ clean.
+          let early = failed_clean (state g.S.Store c.labels.conn)
+          (state g.S.Store c.components_with.new.conn) c.in_err-some.ensures.fails.failed clean in
+          passed_on c.from_residual.result _ _ (λ e same is ours is_open.
+          some_later g.S.Store c.args.conn.now c.labels.conn c.components_with.new.conn
+          c.labels.invariant.read early ours is_open
+          (c.in_err-some.ensures.fails.store clean (sym same ∙ is))) c.from_residual.ensures.1;
+    }
 
-pub returns-in_err-some-clause-store : goal.returns-in_err-some-clause-store
-returns-in_err-some-clause-store g c clean =
-    let early = failed_clean (state g.S.Store c.labels.conn)
-    (state g.S.Store c.components_with.new.conn) c.in_err-some.ensures.failed clean in
-    passed_on c.from_residual.result _ _ (λ e same is ours is_open.
-    some_later g.S.Store c.args.conn.now c.labels.conn c.components_with.new.conn
-    c.labels.invariant.read early ours is_open
-    (c.in_err-some.ensures.store clean (sym same ∙ is))) c.from_residual.ensures.1
-
-pub returns-in_err-extend_from_slice-clause-failed :
-    goal.returns-in_err-extend_from_slice-clause-failed
-returns-in_err-extend_from_slice-clause-failed g c =
-    on_err c.from_residual-in_err-extend_from_slice.result _
-    (read_at_most IsOurSchema (state g.S.Store c.args.conn.now)
-    (state g.S.Store c.components_with.new.conn)
-    (some_then g.S.Store c.args.conn.now c.labels.conn c.components_with.new.conn
-    c.labels.invariant.read c.in_ok-some.ensures.read))
+pub returns-in_err-extend_from_slice-clause-fails :
+    goal.returns-in_err-extend_from_slice-clause-fails
+returns-in_err-extend_from_slice-clause-fails g c =
+    record {
+      failed = on_err c.from_residual-in_err-extend_from_slice.result _
+          (read_at_most IsOurSchema (state g.S.Store c.args.conn.now)
+          (state g.S.Store c.components_with.new.conn)
+          (some_then g.S.Store c.args.conn.now c.labels.conn c.components_with.new.conn
+          c.labels.invariant.read c.in_ok-some.ensures.read));
+      store = search rules;
+    }
 
 pub labels-preserved : goal.labels-preserved
 labels-preserved g c =
@@ -73,7 +97,7 @@ labels-preserved g c =
       found = λ clean t s was of.
           let early = clean_before (state g.S.Store c.labels.conn)
           (state g.S.Store c.components_with.new.conn) c.in_ok-some.ensures.read clean in
-          let some = c.in_ok-some.ensures.found clean t s
+          let some = c.in_ok-some.ensures.tells.found clean t s
           (some_stay g.S.Store c.args.conn.now c.labels.conn t before.read early was) of in
           let both = one_more (under c.args.key s.components) c.args.labels.now c.labels.label-index
           c.label-item.result c.labels.all.items c.in_ok-some.some.items c.labels-test.true
@@ -86,7 +110,7 @@ labels-preserved g c =
           let some = some_carried g.S.Store c.args.conn.now c.labels.conn
           (λ trees. IsPermutation (shown_under trees c.args.key c.label-item.result)
           (map component_shown c.in_ok-some.some.items)) before.read early
-          (c.in_ok-some.ensures.says clean) known in
+          (c.in_ok-some.ensures.tells.says clean) known in
           let both = one_more (shown_under db c.args.key) c.args.labels.now c.labels.label-index
           c.label-item.result (map component_shown c.labels.all.items)
           (map component_shown c.in_ok-some.some.items) c.labels-test.true
@@ -96,30 +120,20 @@ labels-preserved g c =
           c.in_ok-some.some.items)) both);
     }
 
-pub returns-clause-found : goal.returns-clause-found
-returns-clause-found g c clean t s was of =
-    subst (λ all. IsPermutation (flat_map (under c.args.key s.components) all) c.labels.all.items)
-    (take_all c.labels.label-index c.args.labels.now c.labels-test.false)
-    (c.labels.invariant.found clean t s was of)
-
-pub returns-clause-says : goal.returns-clause-says
-returns-clause-says g c clean known =
-    subst (λ all. IsPermutation (flat_map (shown_under (seen g.S.Store c.args.conn.now) c.args.key)
-    all) (map component_shown c.labels.all.items))
-    (take_all c.labels.label-index c.args.labels.now c.labels-test.false)
-    (c.labels.invariant.says clean known)
-
-pub returns-in_err-some-clause-silent : goal.returns-in_err-some-clause-silent
-returns-in_err-some-clause-silent g c clean =
-    let early = failed_clean (state g.S.Store c.labels.conn)
-    (state g.S.Store c.components_with.new.conn) c.in_err-some.ensures.failed clean in
-    let label = c.label-item.result in
-    passed_on c.from_residual.result _ _ (λ e same is known.
-    none_under component_shown IsComponentValue
-    (shown_under (seen g.S.Store c.args.conn.now) c.args.key) c.args.labels.now label
-    (Contains-Has c.args.labels.now label c.labels.label-index c.labels-test.true
-    (sym c.label-item.is))
-    (some_carried g.S.Store c.args.conn.now c.labels.conn
-    (λ trees. SayNone component_shown IsComponentValue (shown_under trees c.args.key label))
-    c.labels.invariant.read early (c.in_err-some.ensures.silent clean (sym same ∙ is)) known))
-    c.from_residual.ensures.1
+pub returns-clause-tells : goal.returns-clause-tells
+returns-clause-tells g c =
+    record {
+      says = λ clean known.
+          subst (λ all. IsPermutation (flat_map (shown_under (seen g.S.Store c.args.conn.now)
+          c.args.key)
+          all) (map component_shown c.labels.all.items))
+          (take_all c.labels.label-index c.args.labels.now c.labels-test.false)
+          (c.labels.invariant.says clean known);
+      silent = search rules;
+      found = λ clean t s was of.
+          subst (λ all. IsPermutation (flat_map (under c.args.key s.components) all)
+          c.labels.all.items)
+          (take_all c.labels.label-index c.args.labels.now c.labels-test.false)
+          (c.labels.invariant.found clean t s was of);
+      unreadable = search rules;
+    }

@@ -27,7 +27,7 @@ returns-clause-made g c clean =
     let early : HasCleanDisk (state g.S.Store mid) =
     omega (arith, c.commit.ensures.survives.clean) in
     let earlier : HasCleanDisk (state g.S.Store c.create_tables.new.tx.conn.now) =
-    omega (arith, early, c.put_about.ensures.survives.clean) in
+    omega (arith, early, c.put_about.ensures.leads.survives.clean) in
     under_ok c.commit.result (IsBlank (state g.S.Store old)) _ (λ was.
     let bare = c.in_ok-create_tables.ensures.made earlier first
     (subst (λ h. IsBlankInside first (state g.S.Store h)) (sym c.transaction-tx.ensures.begun)
@@ -36,7 +36,10 @@ returns-clause-made g c clean =
     (committed registry_schema HasCounted first (state g.S.Store mid)
     (state g.S.Store end) no_tables c.commit.result
     (counted_inside first (state g.S.Store mid) no_tables none_numbered
-    (none_made first (state g.S.Store mid) (c.in_ok-put_about.ensures.made early no_rows first
+    (none_made first (state g.S.Store mid) (c.in_ok-put_about.ensures.leads.made early (
+      no_rows,
+      first,
+    )
     bare))) (c.commit.ensures.ok late)))
 
 pub returns-clause-left : goal.returns-clause-left
@@ -53,14 +56,17 @@ returns-clause-left g c was =
     let within : Survives (state g.S.Store begun) (state g.S.Store mid) (λ _. ⊥) =
     survives_then (state g.S.Store begun) (state g.S.Store one) (state g.S.Store mid) (λ _. ⊥)
     (λ _. ⊥) (λ _. ⊥) (λ _ db none. none) (λ _ db none. none) c.create_tables.ensures.survives
-    c.put_about.ensures.survives in
+    c.put_about.ensures.leads.survives in
     subst (λ h. Survives (state g.S.Store old) (state g.S.Store h) P) same
     (commit_leaves g.S.Store old begun mid end begin within c.commit.ensures.survives P
     (λ early.
     let earlier : HasCleanDisk (state g.S.Store one) =
-    omega (arith, early, c.put_about.ensures.survives.clean) in
+    omega (arith, early, c.put_about.ensures.leads.survives.clean) in
     (counted_inside first (state g.S.Store mid) no_tables none_numbered
-    (none_made first (state g.S.Store mid) (c.in_ok-put_about.ensures.made early no_rows first
+    (none_made first (state g.S.Store mid) (c.in_ok-put_about.ensures.leads.made early (
+      no_rows,
+      first,
+    )
     (c.in_ok-create_tables.ensures.made earlier first
     (subst (λ h. IsBlankInside first (state g.S.Store h)) (sym begin)
     (blank_begun g.S.Store old was)))))).tables))
@@ -98,11 +104,11 @@ returns-in_err-put_about-clause-store g c clean =
     let early : HasCleanDisk (state g.S.Store mid) =
     omega (arith, c.drop-tx-in_err-put_about.ensures.survives.clean) in
     let earlier : HasCleanDisk (state g.S.Store one) =
-    omega (arith, early, c.put_about.ensures.survives.clean) in
+    omega (arith, early, c.put_about.ensures.leads.survives.clean) in
     let within : Survives (state g.S.Store begun) (state g.S.Store mid) (λ _. ⊥) =
     survives_then (state g.S.Store begun) (state g.S.Store one) (state g.S.Store mid) (λ _. ⊥)
     (λ _. ⊥) (λ _. ⊥) (λ _ db none. none) (λ _ db none. none) c.create_tables.ensures.survives
-    c.put_about.ensures.survives in
+    c.put_about.ensures.leads.survives in
     passed_on c.from_residual-in_err-put_about.result c.in_err-put_about.field-0.0 _
     c.from_residual-in_err-put_about.ensures.1 (λ is was.
     let bare = c.in_ok-create_tables.ensures.made earlier first
@@ -113,7 +119,7 @@ returns-in_err-put_about-clause-store g c clean =
     c.drop-tx-in_err-put_about.ensures.survives
     (failed_since (state g.S.Store begun) (state g.S.Store one) (state g.S.Store mid) _
     c.create_tables.ensures.survives
-    (c.in_err-put_about.ensures.fails early is no_rows first bare))))
+    (c.in_err-put_about.ensures.leads.fails early is (no_rows, first) bare))))
 
 pub returns-clause-store : goal.returns-clause-store
 returns-clause-store g c clean =
@@ -129,13 +135,13 @@ returns-clause-store g c clean =
     let early : HasCleanDisk (state g.S.Store mid) =
     omega (arith, c.commit.ensures.survives.clean) in
     let earlier : HasCleanDisk (state g.S.Store one) =
-    omega (arith, early, c.put_about.ensures.survives.clean) in
+    omega (arith, early, c.put_about.ensures.leads.survives.clean) in
     let within : Survives (state g.S.Store begun) (state g.S.Store mid) (λ _. ⊥) =
     survives_then (state g.S.Store begun) (state g.S.Store one) (state g.S.Store mid) (λ _. ⊥)
     (λ _. ⊥) (λ _. ⊥) (λ _ db none. none) (λ _ db none. none) c.create_tables.ensures.survives
-    c.put_about.ensures.survives in
+    c.put_about.ensures.leads.survives in
     if_err c.commit.result _ _ (λ e fails is was.
-    let made = c.in_ok-put_about.ensures.made early no_rows first
+    let made = c.in_ok-put_about.ensures.leads.made early (no_rows, first)
     (c.in_ok-create_tables.ensures.made earlier first
     (subst (λ h. IsBlankInside first (state g.S.Store h)) (sym begin)
     (blank_begun g.S.Store old was))) in

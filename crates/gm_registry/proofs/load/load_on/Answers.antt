@@ -1,3 +1,4 @@
+use Rattle.std.proofs.Common.{rules}
 use Rattle.sqlite.specs.Held.{state}
 use Rattle.sqlite_rows.proofs.Refusing.{if_ok, if_err}
 use Rattle.gm_registry.proofs.ReadsInTurn.{ours, counted, tables_stay, registry_ours, read_leaves}
@@ -6,53 +7,49 @@ use Rattle.gm_registry.proofs.Stored.{registry_numbers}
 use Rattle.gm_registry.proofs.CallsLeave.{saved, answered_reads, failed_reads}
 use Rattle.gm_registry.proofs.load.load_on.Goals as goal
 
-pub returns-clause-loaded : goal.returns-clause-loaded
-returns-clause-loaded g c clean =
+pub returns : goal.returns
+returns g c =
     let old = state g.S.Store c.args.conn.now in
-    let new = state g.S.Store c.fetch.new.conn in
-    if_ok c.judge.result _ _ (λ l says t was. (
-      tables_said old.now.trees t c.in_ok-fetched.fetched l.state l.intents.items l.bytes.items
+    record {
+      says = λ clean. if_ok c.judge.result _ _
+          (λ l says was. any_tables old.now.trees c.in_ok-fetched.fetched l.state l.intents.items
+          l.bytes.items (registry_numbers old was)
+          (c.in_ok-fetched.ensures.rows clean (registry_ours old was)) says)
+          c.judge.ensures.says;
+      silent = λ clean. if_err c.judge.result _ _ (λ e none is s ts bytes was of.
+          none is s ts bytes (any_rows old.now.trees c.in_ok-fetched.fetched s ts bytes
+          (c.in_ok-fetched.ensures.rows clean (registry_ours old was)) of))
+          c.judge.ensures.unreadable;
+      loaded = λ clean.
+          let new = state g.S.Store c.fetch.new.conn in
+          if_ok c.judge.result _ _ (λ l says t was. (
+            tables_said old.now.trees t c.in_ok-fetched.fetched l.state l.intents.items
+                l.bytes.items
+                (counted old t was)
+                (c.in_ok-fetched.ensures.rows clean (ours old t was)) says,
+            saved g.S.Store g.met.S.Store.settled c.fetch.new.conn t
+                (tables_stay old new t c.in_ok-fetched.ensures.read clean was),
+          )) c.judge.ensures.says;
+      unreadable = λ clean. if_err c.judge.result _ _ (λ e none is t s ts bytes was of.
+          none is s ts bytes (says_tables old.now.trees t c.in_ok-fetched.fetched s ts bytes
           (counted old t was)
-          (c.in_ok-fetched.ensures.rows clean (ours old t was)) says,
-      saved g.S.Store g.met.S.Store.settled c.fetch.new.conn t
-          (tables_stay old new t c.in_ok-fetched.ensures.read clean was),
-    )) c.judge.ensures.says
+          (c.in_ok-fetched.ensures.rows clean (ours old t was)) of)) c.judge.ensures.unreadable;
+      store = search rules;
+      reads = answered_reads g.S.Store g.met.S.Store.settled c.args.conn.now c.fetch.new.conn
+          c.in_ok-fetched.ensures.read;
+      untouched = read_leaves (state g.S.Store c.args.conn.now) (state g.S.Store c.fetch.new.conn)
+          c.in_ok-fetched.ensures.read;
+    }
 
-pub returns-clause-unreadable : goal.returns-clause-unreadable
-returns-clause-unreadable g c clean =
-    let old = state g.S.Store c.args.conn.now in
-    if_err c.judge.result _ _ (λ e none is t s ts bytes was of.
-    none is s ts bytes (says_tables old.now.trees t c.in_ok-fetched.fetched s ts bytes
-    (counted old t was)
-    (c.in_ok-fetched.ensures.rows clean (ours old t was)) of)) c.judge.ensures.unreadable
-
-pub returns-clause-reads : goal.returns-clause-reads
-returns-clause-reads g c =
-    answered_reads g.S.Store g.met.S.Store.settled c.args.conn.now c.fetch.new.conn
-    c.in_ok-fetched.ensures.read
-
-pub returns-in_err-fetched-clause-reads : goal.returns-in_err-fetched-clause-reads
-returns-in_err-fetched-clause-reads g c =
-    failed_reads g.S.Store g.met.S.Store.settled c.args.conn.now c.fetch.new.conn
-    c.in_err-fetched.ensures.failed
-
-pub returns-clause-untouched : goal.returns-clause-untouched
-returns-clause-untouched g c =
-    read_leaves (state g.S.Store c.args.conn.now) (state g.S.Store c.fetch.new.conn)
-    c.in_ok-fetched.ensures.read
-
-pub returns-clause-says : goal.returns-clause-says
-returns-clause-says g c clean =
-    let old = state g.S.Store c.args.conn.now in
-    if_ok c.judge.result _ _
-    (λ l says was. any_tables old.now.trees c.in_ok-fetched.fetched l.state l.intents.items
-    l.bytes.items (registry_numbers old was)
-    (c.in_ok-fetched.ensures.rows clean (registry_ours old was)) says)
-    c.judge.ensures.says
-
-pub returns-clause-silent : goal.returns-clause-silent
-returns-clause-silent g c clean =
-    let old = state g.S.Store c.args.conn.now in
-    if_err c.judge.result _ _ (λ e none is s ts bytes was of.
-    none is s ts bytes (any_rows old.now.trees c.in_ok-fetched.fetched s ts bytes
-    (c.in_ok-fetched.ensures.rows clean (registry_ours old was)) of)) c.judge.ensures.unreadable
+pub returns-in_err-fetched : goal.returns-in_err-fetched
+returns-in_err-fetched g c =
+    record {
+      says = search rules;
+      silent = search rules;
+      loaded = search rules;
+      unreadable = search rules;
+      store = search rules;
+      reads = failed_reads g.S.Store g.met.S.Store.settled c.args.conn.now c.fetch.new.conn
+          c.in_err-fetched.ensures.failed;
+      untouched = search rules;
+    }

@@ -112,28 +112,28 @@ returns-in-First g c =
             (λ t first.
             let both = over (first_store s opened is_open first.sound) in
             sees_over s new t first both.0 both.1)
-            (λ empty. absurd (not_empty s opened is_open some empty))) (it.carried clean);
+            (λ empty. absurd (not_empty s opened is_open some empty))) (it.carries.carried clean);
         left = stored_as s.committed.trees _
             (λ t holds. absurd (not_second s opened is_open only holds.sound))
             (λ t first. survives_weaker s new _ _
             (λ clean db over. holds_over s.committed.trees db t first over)
-            (it.left (first_store s opened is_open first.sound)))
+            (it.carries.left (first_store s opened is_open first.sound)))
             (λ empty. absurd (not_empty s opened is_open some empty));
         registry = λ clean. map_ok result _ _ (λ over has.
             (over (first_store s opened is_open (only_first s opened is_open only
             (λ edition. IsSound (schema_of edition) s.committed.trees) (λ edition sound. sound)
-            has))).0) (it.carried clean);
+            has))).0) (it.carries.carried clean);
         second = λ sound. absurd (not_second s opened is_open only sound);
         first = λ sound. record {
           done = λ clean. map_ok result _ _
-              (λ over. (over (first_store s opened is_open sound)).1) (it.carried clean);
+              (λ over. (over (first_store s opened is_open sound)).1) (it.carries.carried clean);
           stays = λ clean. if_err result _ _ (λ e stays still.
               ap (λ (d : Database). d.trees) (stays (first_store s opened is_open sound)
-              still).committed_is) (it.stays clean);
+              still).committed_is) (it.carries.stays clean);
           refused = λ clean. if_err result _ _ (λ e stays t holds still.
               first_still s new t (has_first s opened is_open t holds)
-              (stays (first_store s opened is_open sound) still)) (it.stays clean);
-          left = it.left (first_store s opened is_open sound);
+              (stays (first_store s opened is_open sound) still)) (it.carries.stays clean);
+          left = it.carries.left (first_store s opened is_open sound);
         };
         other = λ foreign. record {
           refused = λ clean. map_ok result _ _ (λ lists.
@@ -155,7 +155,7 @@ returns-in-First g c =
                 first.listed)
                 (subst (λ (d : Database). IsNumbered First d.trees) (sym (opened.settled is_open))
                 first.numbered)
-          ]) (it.unreadable clean);
+          ]) (it.fails.unreadable clean);
           store = λ clean. if_err result _ _ (λ e failed is known. elim known [
             | inl empty ↦ absurd (not_empty s opened is_open some empty)
             | inr (inl has) ↦
@@ -166,7 +166,7 @@ returns-in-First g c =
             | inr (inr foreign) ↦ failed is (foreign_shown s opened is_open foreign)
                 (λ lists. absurd (foreign.other First (subst (λ (d : Database). Lists First d.trees)
                 (opened.settled is_open) lists))) is_open
-          ]) (it.store clean);
+          ]) (it.fails.store clean);
         };
       };
       clean = it.clean;
@@ -222,9 +222,9 @@ returns-in-Second g c =
           refused = λ clean. map_ok result _ _ (λ lists.
               foreign.other Second (subst (λ (d : Database). Lists Second d.trees)
               (opened.settled is_open) (lists (foreign_shown s opened is_open foreign))))
-              (it.texts clean);
+              (it.knows.texts clean);
           alone = failed_leaves_over ShowsList s new (foreign_shown s opened is_open foreign)
-              (it.foreign (λ lists. foreign.other Second
+              (it.knows.foreign (λ lists. foreign.other Second
               (subst (λ (d : Database). Lists Second d.trees) (opened.settled is_open) lists)));
         };
         fails = record {
@@ -238,7 +238,7 @@ returns-in-Second g c =
                 second.listed)
                 (subst (λ (d : Database). IsNumbered Second d.trees) (sym (opened.settled is_open))
                 second.numbered)
-          ]) (it.unreadable clean);
+          ]) (it.fails.unreadable clean);
           store = λ clean. if_err result _ _ (λ e fails is there. elim there [
             | inl empty ↦ absurd (not_empty s opened is_open some empty)
             | inr (inl has) ↦
@@ -248,7 +248,7 @@ returns-in-Second g c =
                 (λ lists. absurd (foreign.other Second
                 (subst (λ (d : Database). Lists Second d.trees) (opened.settled is_open) lists)))
                 is_open
-          ]) (it.store clean);
+          ]) (it.fails.store clean);
         };
       };
       clean = failed.left.clean;

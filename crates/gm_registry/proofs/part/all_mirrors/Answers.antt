@@ -1,3 +1,4 @@
+use Rattle.std.proofs.Common.{rules}
 use Rattle.std.proofs.Common.{◌∙◌, sym, ap, map}
 use Rattle.sqlite.specs.Held.{state}
 use Rattle.sqlite_rows.proofs.Reading.{read_at_most}
@@ -12,41 +13,38 @@ use Rattle.gm_rows.specs.Values.{IsMirrorValue}
 use Rattle.gm_registry.proofs.SilentParts.{none_by}
 use Rattle.gm_registry.proofs.part.all_mirrors.Goals as goal
 
-pub returns-clause-all : goal.returns-clause-all
-returns-clause-all g c clean =
+pub returns-clause-tells : goal.returns-clause-tells
+returns-clause-tells g c =
     let old = state g.S.Store c.args.conn.now in
-    if_ok c.read_all.result _ _ (λ ms is t s was of.
-    mirrors_read old.now.trees t s (counted old t was).rows of c.in_ok-rows.rows.items ms.items
-    (c.in_ok-rows.ensures.rows clean (ours old t was))
-    (ap (map (columns_at nine)) (sym c.deref.ensures.value) ∙ is)) c.read_all.ensures.read
+    record {
+      says = λ clean. if_ok c.read_all.result _ _ (λ ms is known.
+          said_by mirror_shown (old.now.trees 1) c.in_ok-rows.rows.items ms.items
+          (c.in_ok-rows.ensures.queries.rows clean known)
+          (ap (map (columns_at nine)) (sym c.deref.ensures.value) ∙ is)) c.read_all.ensures.read;
+      silent = λ clean. if_err c.read_all.result _ _ (λ e none is known.
+          none_by mirror_shown IsMirrorValue (old.now.trees 1) c.in_ok-rows.rows.items
+          (c.in_ok-rows.ensures.queries.rows clean known)
+          (λ list all same. none is list all (ap (map (columns_at nine)) c.deref.ensures.value ∙
+          same)))
+          c.read_all.ensures.unreadable;
+      found = λ clean. if_ok c.read_all.result _ _ (λ ms is t s was of.
+          mirrors_read old.now.trees t s (counted old t was).rows of c.in_ok-rows.rows.items
+          ms.items
+          (c.in_ok-rows.ensures.queries.rows clean (ours old t was))
+          (ap (map (columns_at nine)) (sym c.deref.ensures.value) ∙ is)) c.read_all.ensures.read;
+      unreadable = λ clean. if_err c.read_all.result _ _ (λ e none is t s was of.
+          no_mirrors old.now.trees t s (counted old t was).rows of c.in_ok-rows.rows.items
+          (c.in_ok-rows.ensures.queries.rows clean (ours old t was))
+          (λ list all same. none is list all (ap (map (columns_at nine)) c.deref.ensures.value ∙
+          same)))
+          c.read_all.ensures.unreadable;
+    }
 
-pub returns-clause-unreadable : goal.returns-clause-unreadable
-returns-clause-unreadable g c clean =
-    let old = state g.S.Store c.args.conn.now in
-    if_err c.read_all.result _ _ (λ e none is t s was of.
-    no_mirrors old.now.trees t s (counted old t was).rows of c.in_ok-rows.rows.items
-    (c.in_ok-rows.ensures.rows clean (ours old t was))
-    (λ list all same. none is list all (ap (map (columns_at nine)) c.deref.ensures.value ∙ same)))
-    c.read_all.ensures.unreadable
-
-pub returns-clause-failed : goal.returns-clause-failed
-returns-clause-failed g c =
-    on_err c.read_all.result _ (read_at_most IsOurSchema (state g.S.Store c.args.conn.now)
-    (state g.S.Store c.rows_of.new.conn) c.in_ok-rows.ensures.read)
-
-pub returns-clause-says : goal.returns-clause-says
-returns-clause-says g c clean =
-    let old = state g.S.Store c.args.conn.now in
-    if_ok c.read_all.result _ _ (λ ms is known.
-    said_by mirror_shown (old.now.trees 1) c.in_ok-rows.rows.items ms.items
-    (c.in_ok-rows.ensures.rows clean known)
-    (ap (map (columns_at nine)) (sym c.deref.ensures.value) ∙ is)) c.read_all.ensures.read
-
-pub returns-clause-silent : goal.returns-clause-silent
-returns-clause-silent g c clean =
-    let old = state g.S.Store c.args.conn.now in
-    if_err c.read_all.result _ _ (λ e none is known.
-    none_by mirror_shown IsMirrorValue (old.now.trees 1) c.in_ok-rows.rows.items
-    (c.in_ok-rows.ensures.rows clean known)
-    (λ list all same. none is list all (ap (map (columns_at nine)) c.deref.ensures.value ∙ same)))
-    c.read_all.ensures.unreadable
+pub returns-clause-fails : goal.returns-clause-fails
+returns-clause-fails g c =
+    record {
+      failed =
+          on_err c.read_all.result _ (read_at_most IsOurSchema (state g.S.Store c.args.conn.now)
+          (state g.S.Store c.rows_of.new.conn) c.in_ok-rows.ensures.queries.read);
+      store = search rules;
+    }

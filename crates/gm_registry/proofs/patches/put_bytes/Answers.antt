@@ -1,10 +1,10 @@
-use Rattle.std.proofs.Common.{◌≡◌, ◌∙◌, ◌==◌, ℕ, inl, inr, List, [], ◌∷◌, true, false, length, sym, ap, subst}
+use Rattle.std.proofs.Common.{◌≡◌, ◌∙◌, ◌==◌, ℕ, inl, inr, List, [], ◌∷◌, true, false, length, sym, ap, subst, arith}
 use Rattle.sqlite.specs.Held.{state}
 use Rattle.gm_state.specs.Rows.{Tables, joined}
 use Rattle.gm_registry.specs.Changes.{with_bytes, with_patch}
 use Rattle.gm_rows.specs.Tables.{IsInside}
 use Rattle.gm_registry.specs.Fitting.{AreShort, TakesBytes, TakesPatch}
-use Rattle.gm_registry.proofs.InsideFails.{passed_on}
+use Rattle.gm_registry.proofs.InsideCalls.{all_done, did, no_call, then_fails}
 use Rattle.gm_registry.proofs.patches.put_bytes.Goals as goal
 
 -- the record of some bytes
@@ -25,16 +25,16 @@ takes_patch bytes blob t some is takes = record {
   short = subst (λ (b : List ℕ). AreShort b []) (sym is) takes.short;
 }
 
-pub returns-in_err-put_row-clause-fails : goal.returns-in_err-put_row-clause-fails
-returns-in_err-put_row-clause-fails g c clean =
-    passed_on c.from_residual.result c.in_err-put_row.field-0.0 _ c.from_residual.ensures.1
-    (λ is first t was fits. c.in_err-put_row.ensures.fails clean is first t was
-    (takes_patch c.args.bytes.now c.as_flattened.result.now t
-    (sym c.is_empty.ensures ∙ c.if-is_empty.false) c.as_flattened.ensures.value fits))
+pub returns-in_err-put_row : goal.returns-in_err-put_row
+returns-in_err-put_row g c =
+    then_fails g.S.Store c.from_residual.result _ _ _ (no_call g.S.Store c.args.tx.now)
+    c.in_err-put_row.ensures (λ t fits room. takes_patch c.args.bytes.now
+    c.as_flattened.result.now t (sym c.is_empty.ensures ∙ c.if-is_empty.false)
+    c.as_flattened.ensures.value fits) c.from_residual.ensures.1
 
-pub returns-clause-put : goal.returns-clause-put
-returns-clause-put g c clean first t was =
-    subst (λ (u : Tables). IsInside first (state g.S.Store c.put_row.new.tx.conn.now) u)
+pub returns : goal.returns
+returns g c =
+    all_done g.S.Store _ _ _ (did g.S.Store c.in_ok-put_row.ensures)
+    (λ first t. subst (λ (u : Tables). IsInside first (state g.S.Store c.put_row.new.tx.conn.now) u)
     (some_patch c.args.bytes.now c.as_flattened.result.now t
-    (sym c.is_empty.ensures ∙ c.if-is_empty.false) c.as_flattened.ensures.value)
-    (c.in_ok-put_row.ensures.put clean first t was)
+    (sym c.is_empty.ensures ∙ c.if-is_empty.false) c.as_flattened.ensures.value)) (omega arith)

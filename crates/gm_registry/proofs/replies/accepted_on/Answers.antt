@@ -1,39 +1,56 @@
+use Rattle.std.proofs.Common.{rules}
 use Rattle.std.proofs.Common.{arith, sym, ap, ◌∙◌, length, slice_get}
 use Rattle.gm_registry.proofs.LastCommand.{no_command, last_number, last_in_range}
 use Rattle.gm_rows.proofs.RowsSayRecords.{passed_on}
 use Rattle.gm_registry.proofs.CallsLeave.{saved}
 use Rattle.gm_registry.proofs.replies.accepted_on.Goals as goal
 
-pub returns-in-None-clause-count : goal.returns-in-None-clause-count
-returns-in-None-clause-count g c clean t was =
-    let it = c.in_ok-rows.ensures.rows clean t was in (
-      no_command t c.in_ok-rows.rows.items it.0
-          (omega (arith, c.in-None.ensures.item.3, ap length c.deref.ensures.value)),
-      saved g.S.Store g.met.S.Store.settled c.last_command.new.conn t it.1,
-    )
+pub returns-in-None-clause-counts : goal.returns-in-None-clause-counts
+returns-in-None-clause-counts g c =
+    record {
+      count = λ clean t was.
+          let it = c.in_ok-rows.ensures.rows clean t was in (
+            no_command t c.in_ok-rows.rows.items it.0
+                (omega (arith, c.in-None.ensures.item.3, ap length c.deref.ensures.value)),
+            saved g.S.Store g.met.S.Store.settled c.last_command.new.conn t it.1,
+          );
+      unreadable = search rules;
+      store = search rules;
+      reads = search rules;
+    }
 
-pub returns-clause-count : goal.returns-clause-count
-returns-clause-count g c clean t was =
-    let it = c.in_ok-rows.ensures.rows clean t was in (
-      last_number t c.in_ok-rows.rows.items c.in-Some.row.now _ it.1.tables.rows.numbered it.0
-          (ap (λ l. slice_get l 0) (sym c.deref.ensures.value) ∙ sym c.in-Some.ensures.value)
-          c.in_ok-read_number-in-Some.ensures.number,
-      saved g.S.Store g.met.S.Store.settled c.last_command.new.conn t it.1,
-    )
+pub returns-clause-counts : goal.returns-clause-counts
+returns-clause-counts g c =
+    record {
+      count = λ clean t was.
+          let it = c.in_ok-rows.ensures.rows clean t was in (
+            last_number t c.in_ok-rows.rows.items c.in-Some.row.now _ it.1.tables.rows.numbered it.0
+                (ap (λ l. slice_get l 0) (sym c.deref.ensures.value) ∙ sym c.in-Some.ensures.value)
+                c.in_ok-read_number-in-Some.ensures.number,
+            saved g.S.Store g.met.S.Store.settled c.last_command.new.conn t it.1,
+          );
+      unreadable = search rules;
+      store = search rules;
+      reads = search rules;
+    }
 
-pub returns-in_err-read_number-in-Some-clause-unreadable :
-    goal.returns-in_err-read_number-in-Some-clause-unreadable
-returns-in_err-read_number-in-Some-clause-unreadable g c clean =
-    passed_on c.from_residual-in_err-read_number-in-Some.result _ _ (λ e same is t was few.
-    let it = c.in_ok-rows.ensures.rows clean t was in
-    let last = last_in_range t c.in_ok-rows.rows.items c.in-Some.row.now it.1.tables.rows.numbered
-    it.0 (ap (λ l. slice_get l 0) (sym c.deref.ensures.value) ∙ sym c.in-Some.ensures.value) in
-    c.in_err-read_number-in-Some.ensures.unreadable last.0 (omega (arith, last.1, few)) last.2)
-    c.from_residual-in_err-read_number-in-Some.ensures.1
-
-pub returns-in_err-read_number-in-Some-clause-store :
-    goal.returns-in_err-read_number-in-Some-clause-store
-returns-in_err-read_number-in-Some-clause-store g c clean =
-    passed_on c.from_residual-in_err-read_number-in-Some.result _ _
-    (λ e same is t was. absurd (c.in_err-read_number-in-Some.ensures.fault (sym same ∙ is)))
-    c.from_residual-in_err-read_number-in-Some.ensures.1
+pub returns-in_err-read_number-in-Some-clause-counts :
+    goal.returns-in_err-read_number-in-Some-clause-counts
+returns-in_err-read_number-in-Some-clause-counts g c =
+    record {
+      count = search rules;
+      unreadable = λ clean.
+          passed_on c.from_residual-in_err-read_number-in-Some.result _ _ (λ e same is t was few.
+          let it = c.in_ok-rows.ensures.rows clean t was in
+          let last = last_in_range t c.in_ok-rows.rows.items c.in-Some.row.now
+          it.1.tables.rows.numbered
+          it.0 (ap (λ l. slice_get l 0) (sym c.deref.ensures.value) ∙ sym c.in-Some.ensures.value)
+          in
+          c.in_err-read_number-in-Some.ensures.unreadable last.0 (omega (arith, last.1, few))
+          last.2)
+          c.from_residual-in_err-read_number-in-Some.ensures.1;
+      store = λ clean. passed_on c.from_residual-in_err-read_number-in-Some.result _ _
+          (λ e same is t was. absurd (c.in_err-read_number-in-Some.ensures.fault (sym same ∙ is)))
+          c.from_residual-in_err-read_number-in-Some.ensures.1;
+      reads = search rules;
+    }

@@ -11,7 +11,7 @@ pub returns-in-Ok-clause-looks : goal.returns-in-Ok-clause-looks
 returns-in-Ok-clause-looks g c =
     looks_at_registry g.S.Store g.H.Shelf g.met.S.Store.settled c.args.self.now _ _
     (λ h. g.met.H.Shelf.lawful _ h) refl c.accepted.ensures.reads c.accepted.ensures.shelf
-    (search rules) (λ clean t has. (c.in-Ok.ensures.count clean t has).1)
+    (search rules) (λ clean t has. (c.in-Ok.ensures.told clean t has).1)
 
 pub returns-in-Err-clause-looks : goal.returns-in-Err-clause-looks
 returns-in-Err-clause-looks g c =

@@ -39,29 +39,27 @@ returns-in-Err-clause-unopened g c =
 
 pub returns-in-Ok-take_up-clause-opened : goal.returns-in-Ok-take_up-clause-opened
 returns-in-Ok-take_up-clause-opened g c =
+    let mid : DiskKept g.S.Store c.take_up.new.self.registry
+    → DiskKept g.S.Store c.in-Ok.registry =
+    λ clean. omega (arith, clean, c.take_up.ensures.keep.clean) in
     record {
       ready = search rules;
       does = λ h is_open clean away u w was. (
-          let mid : DiskKept g.S.Store c.in-Ok.registry =
-          omega (arith, clean, c.take_up.ensures.keep.clean) in
           let it = c.in-Ok.ensures.opens is_open in
           let at = found_at g.S.Store g.H.Shelf c.args.store c.in-Ok.registry
-          c.args.shelf (it.opened mid) away u w was in
+          c.args.shelf (it.opened (mid clean)) away u w was in
           (c.in-Ok-take_up.ensures.done h clean away was.recovers.intents was.recovers.bytes u w
           at).1);
       redone = λ h is_open clean away u w was. (
-          let mid : DiskKept g.S.Store c.in-Ok.registry =
-          omega (arith, clean, c.take_up.ensures.keep.clean) in
           let it = c.in-Ok.ensures.opens is_open in
           let at = found_at g.S.Store g.H.Shelf c.args.store c.in-Ok.registry
-          c.args.shelf (it.opened mid) away u w was in
+          c.args.shelf (it.opened (mid clean)) away u w was in
           (c.in-Ok-take_up.ensures.done h clean away was.recovers.intents was.recovers.bytes u w
           at).0);
       there = λ is_open clean t s ts bytes stands of. (
-          let mid : DiskKept g.S.Store c.in-Ok.registry =
-          omega (arith, clean, c.take_up.ensures.keep.clean) in
           let it = c.in-Ok.ensures.opens is_open in
-          c.in-Ok-take_up.ensures.tells.there clean t s ts bytes (it.opened mid t stands) of);
+          c.in-Ok-take_up.ensures.tells.there clean t s ts bytes (it.opened (mid clean) t stands)
+          of);
     }
 
 pub returns-in-Ok-take_up-clause-leaves : goal.returns-in-Ok-take_up-clause-leaves
@@ -92,35 +90,30 @@ returns-in-Err-take_up-clause-leaves g c h is_open closed =
 
 pub returns-in-Err-take_up-clause-unopened : goal.returns-in-Err-take_up-clause-unopened
 returns-in-Err-take_up-clause-unopened g c =
+    let mid : DiskKept g.S.Store c.take_up.new.self.registry
+    → DiskKept g.S.Store c.in-Ok.registry =
+    λ clean. omega (arith, clean, c.take_up.ensures.keep.clean) in
     record {
       absent = λ is_open closed p is t s ts bytes stands of. (
           let clean : DiskKept g.S.Store c.take_up.new.self.registry =
           subst (λ (k : Held g.row.S.Denot). DiskKept g.S.Store k) c.close.ensures closed in
-          let mid : DiskKept g.S.Store c.in-Ok.registry =
-          omega (arith, clean, c.take_up.ensures.keep.clean) in
           let it = c.in-Ok.ensures.opens is_open in
           c.in-Err-take_up.ensures.tells.absent clean p (ap Err is) t s ts bytes
-          (it.opened mid t stands) of);
+          (it.opened (mid clean) t stands) of);
       disk = λ is_open closed is t stands. (
           let clean : DiskKept g.S.Store c.take_up.new.self.registry =
           subst (λ (k : Held g.row.S.Denot). DiskKept g.S.Store k) c.close.ensures closed in
-          let mid : DiskKept g.S.Store c.in-Ok.registry =
-          omega (arith, clean, c.take_up.ensures.keep.clean) in
           let it = c.in-Ok.ensures.opens is_open in
-          c.in-Err-take_up.ensures.tells.disk clean t (it.opened mid t stands) (ap Err is));
+          c.in-Err-take_up.ensures.tells.disk clean t (it.opened (mid clean) t stands) (ap Err is));
       unreadable = λ is_open closed is openable t s ts bytes stands of. (
           let clean : DiskKept g.S.Store c.take_up.new.self.registry =
           subst (λ (k : Held g.row.S.Denot). DiskKept g.S.Store k) c.close.ensures closed in
-          let mid : DiskKept g.S.Store c.in-Ok.registry =
-          omega (arith, clean, c.take_up.ensures.keep.clean) in
           let it = c.in-Ok.ensures.opens is_open in
           c.in-Err-take_up.ensures.tells.unreadable clean (ap Err is) t s ts bytes
-          (it.opened mid t stands) of);
+          (it.opened (mid clean) t stands) of);
       failed = λ is_open closed is known. (
           let clean : DiskKept g.S.Store c.take_up.new.self.registry =
           subst (λ (k : Held g.row.S.Denot). DiskKept g.S.Store k) c.close.ensures closed in
-          let mid : DiskKept g.S.Store c.in-Ok.registry =
-          omega (arith, clean, c.take_up.ensures.keep.clean) in
           let it = c.in-Ok.ensures.opens is_open in
           elim known [
             | inl stands ↦
@@ -129,18 +122,16 @@ returns-in-Err-take_up-clause-unopened g c =
                 (failed_opened g.S.Store c.args.store c.in-Ok.registry
                 c.take_up.new.self.registry stands.0 (it.left stands.0 stands.1)
                 (c.in-Err-take_up.ensures.store clean (ap Err is) stands.0
-                (it.opened mid stands.0 stands.1)))
-            | inr foreign ↦ absurd ((it.other foreign).refused mid)
+                (it.opened (mid clean) stands.0 stands.1)))
+            | inr foreign ↦ absurd ((it.other foreign).refused (mid clean))
           ]);
       closed = search rules;
       untouched = search rules;
       alone = λ is_open sound closed before. (
           let clean : DiskKept g.S.Store c.take_up.new.self.registry =
           subst (λ (k : Held g.row.S.Denot). DiskKept g.S.Store k) c.close.ensures closed in
-          let mid : DiskKept g.S.Store c.in-Ok.registry =
-          omega (arith, clean, c.take_up.ensures.keep.clean) in
           let it = c.in-Ok.ensures.opens is_open in
-          let is = it.registry mid (second_is_ours (stored g.S.Store c.args.store) sound) in
+          let is = it.registry (mid clean) (second_is_ours (stored g.S.Store c.args.store) sound) in
           subst (λ (k : Held g.row.S.Denot). LeavesAlone g.S.Store c.args.store k)
           (sym c.close.ensures)
           (alone_then g.S.Store c.args.store c.in-Ok.registry c.take_up.new.self.registry is
@@ -149,15 +140,13 @@ returns-in-Err-take_up-clause-unopened g c =
       first_alone = λ is_open sound closed before. (
           let clean : DiskKept g.S.Store c.take_up.new.self.registry =
           subst (λ (k : Held g.row.S.Denot). DiskKept g.S.Store k) c.close.ensures closed in
-          let mid : DiskKept g.S.Store c.in-Ok.registry =
-          omega (arith, clean, c.take_up.ensures.keep.clean) in
           let it = c.in-Ok.ensures.opens is_open in
-          let is = it.registry mid (first_is_ours (stored g.S.Store c.args.store) sound) in
+          let is = it.registry (mid clean) (first_is_ours (stored g.S.Store c.args.store) sound) in
           let over = it.first sound in
           subst (λ (k : Held g.row.S.Denot). MayBeCarriedOver g.S.Store c.args.store k)
           (sym c.close.ensures)
           (carried_then g.S.Store c.args.store c.in-Ok.registry c.take_up.new.self.registry
-          (over.done mid) over.left (c.in-Err-take_up.ensures.before.registry before is)));
+          (over.done (mid clean)) over.left (c.in-Err-take_up.ensures.before.registry before is)));
     }
 
 pub returns-in-Err-clause-foreign : goal.returns-in-Err-clause-foreign

@@ -117,10 +117,11 @@ returns-in-Err-clause-unopened g c =
 
 pub returns-in-Ok-Carried-clause-opened : goal.returns-in-Ok-Carried-clause-opened
 returns-in-Ok-Carried-clause-opened g c =
+    let mid : DiskKept g.S.Store c.take_up_without.new.self.registry
+    → DiskKept g.S.Store c.in-Ok.registry =
+    λ clean. omega (arith, clean, c.take_up_without.ensures.keep.clean) in
     record {
       answers = λ h is_open clean. (
-          let mid : DiskKept g.S.Store c.in-Ok.registry =
-          omega (arith, clean, c.take_up_without.ensures.keep.clean) in
           let it = c.in-Ok.ensures.opens is_open in
           let b : Bench g.row.S.Denot g.row.H.Denot = record {
             media = c.take_up_without.new.self;
@@ -128,7 +129,7 @@ returns-in-Ok-Carried-clause-opened g c =
             redone = c.in-Ok-Carried.redone;
           } in
           answered g.S.Store g.H.Shelf c.args.store c.in-Ok.registry
-          c.args.shelf (it.opened mid) c.args.key.now c.args.provider b
+          c.args.shelf (it.opened (mid clean)) c.args.key.now c.args.provider b
           c.in-Ok-Carried.answer c.in-Ok-Carried.redone refl
           (subst
           (λ (x : TakenUp). DoesWithout g.S.Store g.H.Shelf c.args.key.now
@@ -136,8 +137,6 @@ returns-in-Ok-Carried-clause-opened g c =
           c.take_up_without.new.self.shelf x) c.in-Ok-Carried.field-0-is
           (c.in-Ok-Carried.ensures.does h clean)));
       undone = λ h is_open clean. (
-          let mid : DiskKept g.S.Store c.in-Ok.registry =
-          omega (arith, clean, c.take_up_without.ensures.keep.clean) in
           let it = c.in-Ok.ensures.opens is_open in
           let only : (db : Trees) → CrashLeaves g.S.Store c.args.store db
           → db ≡ stored g.S.Store c.args.store =
@@ -149,7 +148,7 @@ returns-in-Ok-Carried-clause-opened g c =
             redone = c.in-Ok-Carried.redone;
           } in
           undone g.S.Store g.H.Shelf c.args.store c.in-Ok.registry c.args.shelf
-          (it.opened mid) lawful only mid it.left c.args.key.now c.args.provider b
+          (it.opened (mid clean)) lawful only (mid clean) it.left c.args.key.now c.args.provider b
           c.in-Ok-Carried.answer c.in-Ok-Carried.redone
           (subst
           (λ (x : TakenUp). KeepsUndone g.S.Store g.H.Shelf c.args.key.now
@@ -162,12 +161,13 @@ returns-in-Ok-Carried-clause-opened g c =
 
 pub returns-in-Ok-NotLost-clause-opened : goal.returns-in-Ok-NotLost-clause-opened
 returns-in-Ok-NotLost-clause-opened g c =
+    let mid : DiskKept g.S.Store c.take_up_without.new.self.registry
+    → DiskKept g.S.Store c.in-Ok.registry =
+    λ clean. omega (arith, clean, c.take_up_without.ensures.keep.clean) in
     record {
       answers = λ h is_open closed. (
           let clean : DiskKept g.S.Store c.take_up_without.new.self.registry =
           subst (λ (k : Held g.row.S.Denot). DiskKept g.S.Store k) c.close.ensures closed in
-          let mid : DiskKept g.S.Store c.in-Ok.registry =
-          omega (arith, clean, c.take_up_without.ensures.keep.clean) in
           let it = c.in-Ok.ensures.opens is_open in
           let does = subst (λ (x : TakenUp). DoesWithout g.S.Store g.H.Shelf
           c.args.key.now c.args.provider c.in-Ok.registry c.take_up_without.new.self.registry
@@ -175,12 +175,10 @@ returns-in-Ok-NotLost-clause-opened g c =
           (c.in-Ok-NotLost.ensures.does h clean) in
           λ away u w left. does away left.recovers.intents left.recovers.bytes u w
           (found_at g.S.Store g.H.Shelf c.args.store c.in-Ok.registry
-          c.args.shelf (it.opened mid) away u w left));
+          c.args.shelf (it.opened (mid clean)) away u w left));
       undone = λ h is_open closed. (
           let clean : DiskKept g.S.Store c.take_up_without.new.self.registry =
           subst (λ (k : Held g.row.S.Denot). DiskKept g.S.Store k) c.close.ensures closed in
-          let mid : DiskKept g.S.Store c.in-Ok.registry =
-          omega (arith, clean, c.take_up_without.ensures.keep.clean) in
           let it = c.in-Ok.ensures.opens is_open in
           let only : (db : Trees) → CrashLeaves g.S.Store c.args.store db
           → db ≡ stored g.S.Store c.args.store =
@@ -193,7 +191,7 @@ returns-in-Ok-NotLost-clause-opened g c =
           subst (λ (k : Held g.row.S.Denot). OpenLeaves g.S.Store g.H.Shelf
           c.args.store k c.args.shelf c.take_up_without.new.self.shelf) (sym c.close.ensures)
           (opens_over g.S.Store g.H.Shelf c.args.store c.in-Ok.registry
-          c.args.shelf lawful only mid it.left (it.opened mid)
+          c.args.shelf lawful only (mid clean) it.left (it.opened (mid clean))
           c.take_up_without.new.self.registry c.take_up_without.new.self.shelf keeps));
       ready = search rules;
       refused =
@@ -211,13 +209,14 @@ returns-in-Ok-NotLost-clause-opened g c =
 pub returns-in-Err-take_up_without-clause-unopened :
     goal.returns-in-Err-take_up_without-clause-unopened
 returns-in-Err-take_up_without-clause-unopened g c =
+    let mid : DiskKept g.S.Store c.take_up_without.new.self.registry
+    → DiskKept g.S.Store c.in-Ok.registry =
+    λ clean. omega (arith, clean, c.take_up_without.ensures.keep.clean) in
     record {
       lacks = λ h is_open closed q is. (
           let clean : DiskKept g.S.Store c.take_up_without.new.self.registry =
           subst (λ (k : Held g.row.S.Denot). DiskKept g.S.Store k)
           c.close-in-Err-take_up_without.ensures closed in
-          let mid : DiskKept g.S.Store c.in-Ok.registry =
-          omega (arith, clean, c.take_up_without.ensures.keep.clean) in
           let it = c.in-Ok.ensures.opens is_open in
           let only : (db : Trees) → CrashLeaves g.S.Store c.args.store db
           → db ≡ stored g.S.Store c.args.store =
@@ -228,8 +227,8 @@ returns-in-Err-take_up_without-clause-unopened g c =
           c.take_up_without.new.self.shelf q)
           (sym c.close-in-Err-take_up_without.ensures)
           (lacking g.S.Store g.H.Shelf c.args.store c.in-Ok.registry
-          c.args.shelf (it.opened mid) lawful only mid it.left c.args.key.now c.args.provider
-          c.take_up_without.new.self.registry c.take_up_without.new.self.shelf q
+          c.args.shelf (it.opened (mid clean)) lawful only (mid clean) it.left c.args.key.now
+          c.args.provider c.take_up_without.new.self.registry c.take_up_without.new.self.shelf q
           (c.in-Err-take_up_without.ensures.lacks h clean q (ap Err is))));
       untouched = λ before.
           subst (λ (k : Held g.row.S.Denot). AreUntouched g.S.Store c.args.store c.args.shelf k
@@ -243,29 +242,24 @@ returns-in-Err-take_up_without-clause-unopened g c =
           let clean : DiskKept g.S.Store c.take_up_without.new.self.registry =
           subst (λ (k : Held g.row.S.Denot). DiskKept g.S.Store k)
           c.close-in-Err-take_up_without.ensures closed in
-          let mid : DiskKept g.S.Store c.in-Ok.registry =
-          omega (arith, clean, c.take_up_without.ensures.keep.clean) in
           let it = c.in-Ok.ensures.opens is_open in
-          c.in-Err-take_up_without.ensures.tells.disk clean t (it.opened mid t stands) (ap Err is));
+          c.in-Err-take_up_without.ensures.tells.disk clean t (it.opened (mid clean) t stands)
+          (ap Err is));
       unreadable = λ is_open closed is openable t s ts bytes stands of written. (
           let clean : DiskKept g.S.Store c.take_up_without.new.self.registry =
           subst (λ (k : Held g.row.S.Denot). DiskKept g.S.Store k)
           c.close-in-Err-take_up_without.ensures closed in
-          let mid : DiskKept g.S.Store c.in-Ok.registry =
-          omega (arith, clean, c.take_up_without.ensures.keep.clean) in
           let it = c.in-Ok.ensures.opens is_open in
           c.in-Err-take_up_without.ensures.tells.unreadable clean (ap Err is) t s ts bytes
-          (it.opened mid t stands) of written);
+          (it.opened (mid clean) t stands) of written);
       failed = λ is_open closed is known. (
           let clean : DiskKept g.S.Store c.take_up_without.new.self.registry =
           subst (λ (k : Held g.row.S.Denot). DiskKept g.S.Store k)
           c.close-in-Err-take_up_without.ensures closed in
-          let mid : DiskKept g.S.Store c.in-Ok.registry =
-          omega (arith, clean, c.take_up_without.ensures.keep.clean) in
           let it = c.in-Ok.ensures.opens is_open in
           elim known [
             | inl takes ↦
-                let has = it.opened mid takes.tables takes.stands in
+                let has = it.opened (mid clean) takes.tables takes.stands in
                 subst (λ (k : Held g.row.S.Denot). StoreFailed g.S.Store c.args.store k)
                 (sym c.close-in-Err-take_up_without.ensures)
                 (failed_opened g.S.Store c.args.store c.in-Ok.registry
@@ -273,9 +267,9 @@ returns-in-Err-take_up_without-clause-unopened g c =
                 (it.left takes.tables takes.stands)
                 (c.in-Err-take_up_without.ensures.tells.store clean (ap Err is) takes.tables
                 takes.records takes.intents takes.bytes has takes.are takes.few
-                (room_opened g.S.Store c.args.store c.in-Ok.registry it mid takes.tables
+                (room_opened g.S.Store c.args.store c.in-Ok.registry it (mid clean) takes.tables
                 takes.stands has takes.room)))
-            | inr foreign ↦ absurd ((it.other foreign).refused mid)
+            | inr foreign ↦ absurd ((it.other foreign).refused (mid clean))
           ]);
       closed = search rules;
     }

@@ -13,78 +13,77 @@ use Rattle.gm_bench.proofs.Causes.{of_failed}
 use Rattle.gm_bench.proofs.FittingLosses.{loss_fits_tables}
 use Rattle.gm_bench.proofs.media.Media.commit_loss.Goals as goal
 
-pub returns-in-Ok-clause-leaves : goal.returns-in-Ok-clause-leaves
-returns-in-Ok-clause-leaves g c h clean p away ts bytes u w was =
-    let at = was.found in
-    let is = same_behind c.args.loss.now.change c.args.key.now (settled at.tables)
-    c.deref.ensures.value c.deref-2.ensures.value c.as_str-words.ensures.value in
-    commits g.S.Store g.H.Shelf c.args.self.now.registry
-    c.accept_instead.new.self c.args.self.now.shelf away ts bytes u w
-    (g.met.H.Shelf.lawful c.args.self.now.shelf h) at c.args.key.now p c.args.loss.now was.judged
-    (saved g.S.Store g.met.S.Store.settled c.args.self.now.registry at.tables at.has).crash clean
-    (subst (λ (t : Tables). MayLeave g.S.Store c.args.self.now.registry c.accept_instead.new.self t)
-    is (c.accept_instead.ensures.writes.left at.tables at.has))
+pub returns-in-Ok : goal.returns-in-Ok
+returns-in-Ok g c =
+    record {
+      leaves = λ h clean p away ts bytes u w was.
+          let at = was.found in
+          let is = same_behind c.args.loss.now.change c.args.key.now (settled at.tables)
+          c.deref.ensures.value c.deref-2.ensures.value c.as_str-words.ensures.value in
+          commits g.S.Store g.H.Shelf c.args.self.now.registry
+          c.accept_instead.new.self c.args.self.now.shelf away ts bytes u w
+          (g.met.H.Shelf.lawful c.args.self.now.shelf h) at c.args.key.now p c.args.loss.now
+          was.judged (saved g.S.Store g.met.S.Store.settled c.args.self.now.registry at.tables
+          at.has).crash clean (subst (λ (t : Tables). MayLeave g.S.Store c.args.self.now.registry
+          c.accept_instead.new.self t) is (c.accept_instead.ensures.writes.left at.tables at.has));
+      done = λ h clean p away ts bytes u w was.
+          let at = was.found in
+          let is = same_behind c.args.loss.now.change c.args.key.now (settled at.tables)
+          c.deref.ensures.value c.deref-2.ensures.value c.as_str-words.ensures.value in
+          lost g.S.Store g.H.Shelf c.args.self.now.registry
+          c.accept_instead.new.self c.args.self.now.shelf away ts bytes u w
+          (g.met.H.Shelf.lawful c.args.self.now.shelf h) at c.args.key.now p c.args.loss.now
+          was.judged (subst (λ (t : Tables). HasTables g.S.Store c.accept_instead.new.self t) is
+          (c.in-Ok.ensures.writes.done clean at.tables at.has).tables) c.in-Ok.number
+          (c.in-Ok.ensures.accepts.number clean at.tables at.has);
+      store = search rules;
+      goes_on = λ clean t has. record {
+        tables = _;
+        has = (c.in-Ok.ensures.writes.done clean t has).tables;
+        counts = (c.accept_instead.ensures.writes.left t has).counts;
+        limit = (c.accept_instead.ensures.writes.left t has).limit;
+      };
+      alone = record {
+        shelf = search rules;
+        clean = search rules;
+        fault = search rules;
+        readable = search rules;
+      };
+    }
 
-pub returns-in-Err-clause-leaves : goal.returns-in-Err-clause-leaves
-returns-in-Err-clause-leaves g c h clean p away ts bytes u w was =
-    let at = was.found in
-    let is = same_behind c.args.loss.now.change c.args.key.now (settled at.tables)
-    c.deref.ensures.value c.deref-2.ensures.value c.as_str-words.ensures.value in
-    commits g.S.Store g.H.Shelf c.args.self.now.registry
-    c.accept_instead.new.self c.args.self.now.shelf away ts bytes u w
-    (g.met.H.Shelf.lawful c.args.self.now.shelf h) at c.args.key.now p c.args.loss.now was.judged
-    (saved g.S.Store g.met.S.Store.settled c.args.self.now.registry at.tables at.has).crash clean
-    (subst (λ (t : Tables). MayLeave g.S.Store c.args.self.now.registry c.accept_instead.new.self t)
-    is (c.accept_instead.ensures.writes.left at.tables at.has))
-
-pub returns-in-Ok-clause-done : goal.returns-in-Ok-clause-done
-returns-in-Ok-clause-done g c h clean p away ts bytes u w was =
-    let at = was.found in
-    let is = same_behind c.args.loss.now.change c.args.key.now (settled at.tables)
-    c.deref.ensures.value c.deref-2.ensures.value c.as_str-words.ensures.value in
-    lost g.S.Store g.H.Shelf c.args.self.now.registry
-    c.accept_instead.new.self c.args.self.now.shelf away ts bytes u w
-    (g.met.H.Shelf.lawful c.args.self.now.shelf h) at c.args.key.now p c.args.loss.now was.judged
-    (subst (λ (t : Tables). HasTables g.S.Store c.accept_instead.new.self t) is
-    (c.in-Ok.ensures.writes.done clean at.tables at.has).tables) c.in-Ok.number
-    (c.in-Ok.ensures.accepts.number clean at.tables at.has)
-
-pub returns-in-Err-clause-store : goal.returns-in-Err-clause-store
-returns-in-Err-clause-store g c clean is t ts has can low state readable room =
-    let fault : c.of_store.result ≡ Store = cc in
-    let loss = c.args.loss.now in
-    let few : length loss.change.components ≤ 16 = can.change.few_put in
-    let fits = subst (λ (ch : Changed). FitsTables ch c.args.key.now
-    c.as_str-words.result.now (settled t)) (sym (same_pending loss.change c.deref.ensures.value
-    c.deref-2.ensures.value))
-    (subst (λ (l : List ℕ). FitsTables (with_pending loss.change loss.intents.items
-    loss.bytes.items) c.args.key.now l (settled t)) (sym c.as_str-words.ensures.value)
-    (loss_fits_tables c.args.key.now ts t loss can low state readable)) in
-    c.in-Err.ensures.accepts.store clean (of_failed c.in-Err.fault
-    (sym c.of_store.ensures.value ∙ fault)) t has can.room can.change.reply fits
-    (less_room (length loss.change.components + 2) most_rows
-    (seen g.S.Store c.args.self.now.registry) (omega (arith, few)) room)
-
-pub returns-in-Ok-clause-goes_on : goal.returns-in-Ok-clause-goes_on
-returns-in-Ok-clause-goes_on g c clean t has = record {
-  tables = _;
-  has = (c.in-Ok.ensures.writes.done clean t has).tables;
-  counts = (c.accept_instead.ensures.writes.left t has).counts;
-  limit = (c.accept_instead.ensures.writes.left t has).limit;
-}
-
-pub returns-in-Ok-clause-alone : goal.returns-in-Ok-clause-alone
-returns-in-Ok-clause-alone g c = record {
-  shelf = search rules;
-  clean = search rules;
-  fault = search rules;
-  readable = search rules;
-}
-
-pub returns-in-Err-clause-alone : goal.returns-in-Err-clause-alone
-returns-in-Err-clause-alone g c = record {
-  shelf = search rules;
-  clean = search rules;
-  fault = search rules;
-  readable = search rules;
-}
+pub returns-in-Err : goal.returns-in-Err
+returns-in-Err g c =
+    record {
+      leaves = λ h clean p away ts bytes u w was.
+          let at = was.found in
+          let is = same_behind c.args.loss.now.change c.args.key.now (settled at.tables)
+          c.deref.ensures.value c.deref-2.ensures.value c.as_str-words.ensures.value in
+          commits g.S.Store g.H.Shelf c.args.self.now.registry
+          c.accept_instead.new.self c.args.self.now.shelf away ts bytes u w
+          (g.met.H.Shelf.lawful c.args.self.now.shelf h) at c.args.key.now p c.args.loss.now
+          was.judged (saved g.S.Store g.met.S.Store.settled c.args.self.now.registry at.tables
+          at.has).crash clean (subst (λ (t : Tables). MayLeave g.S.Store c.args.self.now.registry
+          c.accept_instead.new.self t) is (c.accept_instead.ensures.writes.left at.tables at.has));
+      done = search rules;
+      store = λ clean is t ts has can low state readable room.
+          let fault : c.of_store.result ≡ Store = cc in
+          let loss = c.args.loss.now in
+          let few : length loss.change.components ≤ 16 = can.change.few_put in
+          let fits = subst (λ (ch : Changed). FitsTables ch c.args.key.now
+          c.as_str-words.result.now (settled t)) (sym (same_pending loss.change
+          c.deref.ensures.value c.deref-2.ensures.value))
+          (subst (λ (l : List ℕ). FitsTables (with_pending loss.change loss.intents.items
+          loss.bytes.items) c.args.key.now l (settled t)) (sym c.as_str-words.ensures.value)
+          (loss_fits_tables c.args.key.now ts t loss can low state readable)) in
+          c.in-Err.ensures.accepts.store clean (of_failed c.in-Err.fault
+          (sym c.of_store.ensures.value ∙ fault)) t has can.room can.change.reply fits
+          (less_room (length loss.change.components + 2) most_rows
+          (seen g.S.Store c.args.self.now.registry) (omega (arith, few)) room);
+      goes_on = search rules;
+      alone = record {
+        shelf = search rules;
+        clean = search rules;
+        fault = search rules;
+        readable = search rules;
+      };
+    }

@@ -1,13 +1,4 @@
 use Rattle.gm_registry.proofs.registry.Registry.state.Goals as goal
 
-pub returns-clause-says : goal.returns-clause-says
-returns-clause-says g c = rw (← c.self.view_is) c.state_on.ensures.says
-
-pub returns-clause-silent : goal.returns-clause-silent
-returns-clause-silent g c = rw (← c.self.view_is) c.state_on.ensures.silent
-
-pub returns-clause-state : goal.returns-clause-state
-returns-clause-state g c = rw (← c.self.view_is) c.state_on.ensures.state
-
-pub returns-clause-unreadable : goal.returns-clause-unreadable
-returns-clause-unreadable g c = rw (← c.self.view_is) c.state_on.ensures.unreadable
+pub returns : goal.returns
+returns g c = rw (← c.self.view_is) c.state_on.ensures
