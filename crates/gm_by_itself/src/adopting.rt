@@ -1,13 +1,13 @@
 //! The command `adopt --all`: each mirror that the images of the folder show whole is adopted, and
 //! the others are named.
 
-ghost use Rattle.std.specs.Prelude.{◌≡◌, IfOk};
+ghost use Rattle.std.specs.Prelude.{IfOk, OnOk};
 ghost use Rattle.gm_bench.specs.Benches.{progress_of};
 ghost use Rattle.gm_bench.specs.Phases.{TakesCommands};
 ghost use Rattle.gm_process.specs.Statuses.{MayRefuse};
 
 use crate::by_itself::hand_in_by_itself;
-use gm_bench::{Bench, BenchFault, Phase};
+use gm_bench::Bench;
 use gm_command_line::{Checks, Form, Single, Unnumbered};
 use gm_faults::Fault;
 use gm_looks::taste_shelf;
@@ -126,7 +126,8 @@ fn adopt<S: Alter, H: Shelf, I: BufRead, O: Write, E: Write>(
     streams: &mut Streams<'_, I, O, E>,
 ) -> Result<Status, Fault>
     requires { TakesCommands (progress_of bench.old) }
-    ensures { IfOk result MayRefuse }
+    ensures ends { IfOk result MayRefuse }
+    ensures phase { OnOk result (TakesCommands (progress_of bench.new)) }
 {
     let words = words_of(rt.alloc(), group)?;
     let single = Single {
@@ -152,7 +153,8 @@ fn adopt_or_leave<S: Alter, H: Shelf, I: BufRead, O: Write, E: Write>(
     streams: &mut Streams<'_, I, O, E>,
 ) -> Result<Status, Fault>
     requires { TakesCommands (progress_of bench.old) }
-    ensures { IfOk result MayRefuse }
+    ensures ends { IfOk result MayRefuse }
+    ensures phase { OnOk result (TakesCommands (progress_of bench.new)) }
 {
     let state = bench.view(rt.alloc())?;
     if is_registered(&state, group) {
@@ -175,15 +177,14 @@ pub fn adopt_all<S: Alter, H: Shelf, I: BufRead, O: Write, E: Write>(
     bench: &mut Bench<S, H>,
     streams: &mut Streams<'_, I, O, E>,
 ) -> Result<Status, Fault>
-    ensures { IfOk result MayRefuse }
+    requires { TakesCommands (progress_of bench.old) }
+    ensures ends { IfOk result MayRefuse }
+    ensures phase { OnOk result (TakesCommands (progress_of bench.new)) }
 {
     let tasted = tasted_in(rt, streams)?;
     let groups = tasted.groups.as_slice();
     let mut refused = false;
     for group in groups {
-        if !matches!(bench.phase(), Phase::Ready) {
-            return Err(Fault::Bench(BenchFault::Closed));
-        }
         let status = adopt_or_leave(rt, groups, group, checks, bench, streams)?;
         refused |= status == Status::Refused;
     }

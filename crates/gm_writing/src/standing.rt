@@ -1,5 +1,8 @@
 //! Which of the commands were accepted before.
 
+ghost use Rattle.std.specs.Prelude.{◌≡◌, OnOk};
+ghost use Rattle.gm_bench.specs.Benches.{progress_of};
+
 use crate::patches::Patches;
 use gm_bench::Bench;
 use gm_faults::Fault;
@@ -31,7 +34,9 @@ fn one_of<S: Alter, H: Shelf>(
     patches: &Patches<'_>,
     index: usize,
     bench: &mut Bench<S, H>,
-) -> Result<One, Fault> {
+) -> Result<One, Fault>
+    ensures { OnOk result (progress_of bench.new ≡ progress_of bench.old) }
+{
     let key = patches.key(alloc, index)?;
     let Some(kept) = bench.kept(key.as_str())? else {
         return Ok(One::New);
@@ -50,7 +55,9 @@ pub(crate) fn standing_of<S: Alter, H: Shelf>(
     alloc: Global,
     patches: &Patches<'_>,
     bench: &mut Bench<S, H>,
-) -> Result<Standing, Fault> {
+) -> Result<Standing, Fault>
+    ensures { OnOk result (progress_of bench.new ≡ progress_of bench.old) }
+{
     let count = patches.count();
     let mut standing = Standing {
         first_new: count,

@@ -1,13 +1,15 @@
 //! The command itself.
 
-ghost use Rattle.std.specs.Prelude.{◌≡◌, IfOk};
+ghost use Rattle.std.specs.Prelude.{IfOk, OnOk};
+ghost use Rattle.gm_bench.specs.Benches.{progress_of};
+ghost use Rattle.gm_bench.specs.Phases.{TakesCommands};
 ghost use Rattle.gm_process.specs.Statuses.{MayRefuse};
 
 use crate::obstacle::{Obstacle, say_kept};
 use crate::patches::Patches;
 use crate::source::{named, read_source};
 use crate::standing::standing_of;
-use gm_bench::{Bench, BenchFault, Phase};
+use gm_bench::Bench;
 use gm_by_itself::first_key;
 use gm_command_line::{Checks, Form, Writing};
 use gm_commands::{MAX_COMMANDS, is_key};
@@ -104,7 +106,9 @@ fn hand_in_alone<S: Alter, H: Shelf, I: BufRead, O: Write, E: Write>(
     bench: &mut Bench<S, H>,
     streams: &mut Streams<'_, I, O, E>,
 ) -> Result<Status, Fault>
-    ensures { IfOk result MayRefuse }
+    requires { TakesCommands (progress_of bench.old) }
+    ensures ends { IfOk result MayRefuse }
+    ensures phase { OnOk result (TakesCommands (progress_of bench.new)) }
 {
     let alloc = rt.alloc();
     let key = patches.key(alloc, index)?;
@@ -115,9 +119,6 @@ fn hand_in_alone<S: Alter, H: Shelf, I: BufRead, O: Write, E: Write>(
         images: looks,
         losses: false,
     };
-    if !matches!(bench.phase(), Phase::Ready) {
-        return Err(Fault::Bench(BenchFault::Closed));
-    }
     let one = One {
         key: key.as_str(),
         words: &words,
@@ -143,16 +144,15 @@ fn hand_in_several<S: Alter, H: Shelf, I, O: Write, E: Write>(
     bench: &mut Bench<S, H>,
     streams: &mut Streams<'_, I, O, E>,
 ) -> Result<Status, Fault>
-    ensures { IfOk result MayRefuse }
+    requires { TakesCommands (progress_of bench.old) }
+    ensures ends { IfOk result MayRefuse }
+    ensures phase { OnOk result (TakesCommands (progress_of bench.new)) }
 {
     let mut meter = Meter::new(rt, streams.complaints, part.style);
     for turn in 0..part.end.saturating_sub(part.begin).div_ceil(AT_ONCE) {
         let from = part.begin.saturating_add(turn.saturating_mul(AT_ONCE));
         let to = from.saturating_add(AT_ONCE).min(part.end);
         let text = patches.lines(rt.alloc(), from, to)?;
-        if !matches!(bench.phase(), Phase::Ready) {
-            return Err(Fault::Bench(BenchFault::Closed));
-        }
         // Each answer is a line of its own, so a bar is taken away before them.
         meter.end();
         let (output, complaints) = (&mut *streams.output, &mut *meter.complaints);
@@ -176,7 +176,9 @@ fn hand_in_all<S: Alter, H: Shelf, I: BufRead, O: Write, E: Write>(
     bench: &mut Bench<S, H>,
     streams: &mut Streams<'_, I, O, E>,
 ) -> Result<Status, Fault>
-    ensures { IfOk result MayRefuse }
+    requires { TakesCommands (progress_of bench.old) }
+    ensures ends { IfOk result MayRefuse }
+    ensures phase { OnOk result (TakesCommands (progress_of bench.new)) }
 {
     let count = patches.count();
     let before = Part {
@@ -210,7 +212,9 @@ fn refuse_other<S: Alter, H: Shelf, I: BufRead, O: Write, E: Write>(
     bench: &mut Bench<S, H>,
     streams: &mut Streams<'_, I, O, E>,
 ) -> Result<Status, Fault>
-    ensures { IfOk result MayRefuse }
+    requires { TakesCommands (progress_of bench.old) }
+    ensures ends { IfOk result MayRefuse }
+    ensures phase { OnOk result (TakesCommands (progress_of bench.new)) }
 {
     hand_in_alone(rt, patches, other, false, bench, streams)?;
     let key = patches.key(rt.alloc(), other)?;
@@ -250,7 +254,9 @@ fn write_patches<S: Alter, H: Shelf, I: BufRead, O: Write, E: Write>(
     bench: &mut Bench<S, H>,
     streams: &mut Streams<'_, I, O, E>,
 ) -> Result<Status, Fault>
-    ensures { IfOk result MayRefuse }
+    requires { TakesCommands (progress_of bench.old) }
+    ensures ends { IfOk result MayRefuse }
+    ensures phase { OnOk result (TakesCommands (progress_of bench.new)) }
 {
     let alloc = rt.alloc();
     let key = patches.first_key;
@@ -295,7 +301,9 @@ fn write_into<S: Alter, H: Shelf, I: BufRead, O: Write, E: Write>(
     bench: &mut Bench<S, H>,
     streams: &mut Streams<'_, I, O, E>,
 ) -> Result<Status, Fault>
-    ensures { IfOk result MayRefuse }
+    requires { TakesCommands (progress_of bench.old) }
+    ensures ends { IfOk result MayRefuse }
+    ensures phase { OnOk result (TakesCommands (progress_of bench.new)) }
 {
     let bytes = read_source(rt, writing.file, room.bytes.saturating_add(1), streams)?;
     let key = first_key(rt.alloc(), writing.key, bench)?;
@@ -317,7 +325,9 @@ pub fn write_data<S: Alter, H: Shelf, I: BufRead, O: Write, E: Write>(
     bench: &mut Bench<S, H>,
     streams: &mut Streams<'_, I, O, E>,
 ) -> Result<Report, Fault>
-    ensures { IfOk result (λ report. MayRefuse report.status) }
+    requires { TakesCommands (progress_of bench.old) }
+    ensures ends { IfOk result (λ report. MayRefuse report.status) }
+    ensures phase { OnOk result (TakesCommands (progress_of bench.new)) }
 {
     let alloc = rt.alloc();
     let state = bench.view(alloc)?;
