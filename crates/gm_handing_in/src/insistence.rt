@@ -1,5 +1,7 @@
 //! What is done only if whoever runs the program wants it.
 
+ghost use Rattle.std.specs.Prelude.{IfOk, IsTrue};
+
 use gm_answers::not_done_in;
 use gm_command_line::Form;
 use gm_faults::Fault;
@@ -42,7 +44,11 @@ pub fn is_wanted<I: BufRead, O: Write, E: Write>(
     form: Form,
     sentences: &[String],
     streams: &mut Streams<'_, I, O, E>,
-) -> Result<bool, Fault> {
+) -> Result<bool, Fault>
+    // It is wanted only if there is somebody to ask.
+    ensures asked { IfOk result (λ is_wanted. IsTrue is_wanted
+        → IsTrue streams.old.explaining.asks) }
+{
     let asks = streams.explaining.asks;
     if !asks {
         tell_not_done(alloc, key, form, streams)?;

@@ -17,7 +17,7 @@ use gm_filling::fill_components;
 use gm_metadata::Label;
 use gm_process::{Status, Streams};
 use gm_shelf::Shelf;
-use gm_state::{ComponentState, component_state};
+use gm_state::{ComponentState, State, component_state};
 use sqlite::Alter;
 use std::alloc::Global;
 use std::io::Write;
@@ -29,7 +29,14 @@ fn is_active_state(state: Option<ComponentState>) -> bool
     matches!(state, Some(ComponentState::Active))
 }
 
-// Whether an image is an ACTIVE component, by the records of the registry.
+/// Whether an image is an ACTIVE component, by these records.
+pub(crate) fn is_active_in(state: &State, image: Label) -> bool
+    ensures { result ≡ is_active (component_state state.now image) }
+{
+    is_active_state(component_state(state, image))
+}
+
+// The same, by the records of the registry.
 fn is_active<S: Alter, H: Shelf>(
     alloc: Global,
     bench: &mut Bench<S, H>,
@@ -41,7 +48,7 @@ fn is_active<S: Alter, H: Shelf>(
     ensures progress { OnOk result (progress_of bench.new ≡ progress_of bench.old) }
 {
     let state = bench.view(alloc)?;
-    Ok(is_active_state(component_state(&state, image)))
+    Ok(is_active_in(&state, image))
 }
 
 /// Fills the new image, and prints its state. It goes on only if that is ACTIVE then.

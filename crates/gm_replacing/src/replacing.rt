@@ -1,6 +1,6 @@
 //! The command `replace`.
 
-ghost use Rattle.std.specs.Prelude.{◌≡◌, IfOk, OnOk};
+ghost use Rattle.std.specs.Prelude.{◌≡◌, IfOk, IsTrue, OnOk};
 ghost use Rattle.gm_bench.specs.Benches.{progress_of};
 ghost use Rattle.gm_bench.specs.Phases.{TakesCommands};
 ghost use Rattle.gm_process.specs.Statuses.{MayRefuse};
@@ -168,7 +168,11 @@ fn is_taken_out<I: BufRead, O: Write, E: Write>(
     replacing: &Replacing<'_>,
     first: &str,
     streams: &mut Streams<'_, I, O, E>,
-) -> Result<bool, Fault> {
+) -> Result<bool, Fault>
+    // Unless it is forced, it is wanted only if there is somebody to ask.
+    ensures asked { IfOk result (λ is_taken_out. IsTrue is_taken_out
+        → IsTrue replacing.now.checks.losses → IsTrue streams.old.explaining.asks) }
+{
     if !replacing.checks.losses {
         return Ok(true);
     }

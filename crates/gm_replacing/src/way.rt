@@ -3,6 +3,7 @@
 ghost use Rattle.std.specs.Prelude.{◌≡◌, OnOk};
 ghost use Rattle.gm_bench.specs.Benches.{progress_of};
 
+use crate::filled::is_active_in;
 use gm_bench::{Bench, BenchFault};
 use gm_command_line::Replacing;
 use gm_commands::Command;
@@ -49,13 +50,6 @@ fn is_member(state: &State, mirror: Label, image: Label) -> bool {
         Some(component) => component.mirror == mirror,
         None => false,
     }
-}
-
-// Whether the image is ACTIVE, by its record.
-fn is_active(state: &State, image: Label) -> bool {
-    state
-        .component(image)
-        .is_some_and(|component| component.disk.is_active())
 }
 
 // Whether a mirror has as many components as one may have, and one is ACTIVE beside this one.
@@ -107,7 +101,7 @@ pub(crate) fn way_now<S: Alter, H: Shelf>(
     match (has_old, has_new) {
         (false, false) => Ok(None),
         (false, true) => Ok(Some(Way::OnlyFill)),
-        (true, true) if is_active(state, replacing.new) => Ok(Some(Way::Filled)),
+        (true, true) if is_active_in(state, replacing.new) => Ok(Some(Way::Filled)),
         (true, true) => Ok(Some(Way::Inserted)),
         (true, false) => {
             if is_gone(alloc, bench, mirror, replacing.old)? {
