@@ -14,7 +14,8 @@ use gm_metadata::Label;
 use gm_process::{HeldFolder, Patience, Place, Status, Streams};
 use gm_registry::StoreFault;
 use gm_registry_files::{
-    StoreCause, foreign_fault, is_no_database, is_there, leave_out_registry, store_cause,
+    StoreCause, foreign_fault, is_no_database, is_there, leave_out_registry, open_store,
+    store_cause,
 };
 use gm_reports::Report;
 use gm_shelf::FileShelf;
@@ -155,7 +156,7 @@ fn open_patiently(
 ) -> Result<Connection<FileStore<File>>, Error> {
     let busy = Error::SqliteFailure(ErrorCode::DatabaseBusy);
     for _ in 0..u64::MAX {
-        match Connection::open(rt, registry) {
+        match open_store(rt, registry) {
             Err(e) if e == busy && patience.pauses(rt) => {}
             opened => return opened,
         }

@@ -5,8 +5,9 @@ use gm_registry::StoreFault;
 use std::fs::{self, File};
 use std::io::{self, Read};
 
-// How many bytes of a file are looked at: the first page, as SQLite makes it here.
-const PAGE_BYTES: usize = 4096;
+// How many bytes of a file are looked at. A registry's first page, which lists its tables, is no
+// longer.
+const HEAD_BYTES: usize = 4096;
 
 // Where the number of cells is in the first page, in bytes: big-endian.
 const CELLS_AT: usize = 103;
@@ -14,20 +15,20 @@ const CELLS_AT: usize = 103;
 // What the first page of a registry has.
 const FIRST_TABLE: &[u8] = b"CREATE TABLE about(";
 
-// Reads the first page of a regular file, and says how many bytes there are.
-fn first_page(rt: &HostRuntime, registry: &str, out: &mut [u8; PAGE_BYTES]) -> io::Result<usize> {
+// Reads the first bytes of a regular file, and says how many there are.
+fn head_of(rt: &HostRuntime, registry: &str, out: &mut [u8; HEAD_BYTES]) -> io::Result<usize> {
     if !fs::metadata(rt, registry)?.is_file() {
         return Ok(0);
     }
     File::open(rt, registry)?.read(out)
 }
 
-// Whether a first page lists something, and not the tables of a registry.
-fn lists_others(page: &[u8]) -> bool {
-    let cells = page.get(CELLS_AT..CELLS_AT.saturating_add(2));
+// Whether the first page of a database lists something, and not the tables of a registry.
+fn lists_others(head: &[u8]) -> bool {
+    let cells = head.get(CELLS_AT..CELLS_AT.saturating_add(2));
     let lists_any = cells.is_some_and(|cells| cells != [0, 0].as_slice());
     lists_any
-        && !page
+        && !head
             .windows(FIRST_TABLE.len())
             .any(|found| found == FIRST_TABLE)
 }
@@ -36,9 +37,9 @@ fn lists_others(page: &[u8]) -> bool {
 /// `Unreadable` or `Store`, as an opening says. `None` if it is a registry, or may become one.
 /// Nothing is written, and nothing is put beside it.
 pub fn foreign_fault(rt: &HostRuntime, registry: &str) -> Option<StoreFault> {
-    let mut page = [0; PAGE_BYTES];
-    let count = first_page(rt, registry, &mut page).ok()?;
-    if !lists_others(page.get(..count)?) {
+    let mut head = [0; HEAD_BYTES];
+    let count = head_of(rt, registry, &mut head).ok()?;
+    if !lists_others(head.get(..count)?) {
         return None;
     }
     records_of(rt, registry).err()

@@ -9,12 +9,14 @@
 
 mod beside;
 mod foreign;
+mod opened;
 mod registry_files;
 mod unopened;
 mod unusable;
 
 pub use beside::without_beside;
 pub use foreign::foreign_fault;
+pub use opened::open_store;
 pub use registry_files::{is_there, leave_out_registry, length_of};
 pub use unopened::{Whole, records_of};
 pub use unusable::{StoreCause, is_no_database, store_cause};

@@ -6,6 +6,7 @@ ghost use Rattle.gm_state.specs.Rows.{Tables};
 ghost use Rattle.gm_registry.specs.Registry.{DiskKept, HasTables};
 ghost use Rattle.gm_registry_files.specs.Wholes.{IsWholeOf};
 
+use crate::opened::open_files;
 use crate::registry_files::file_fault;
 use gm_overlay::{OverlayDisk, disk_over};
 use gm_registry::{Loaded, Registry, StoreFault};
@@ -107,9 +108,9 @@ fn registry_at(
     let alloc = rt.alloc();
     let random = RandomState::new(rt).map_err(file_fault)?;
     let files = files_of(rt, registry, random.hash_one(&0u8)).map_err(file_fault)?;
-    match Connection::open_files(alloc, files, Options::new(random.hash_one(&1u8))) {
+    match open_files(alloc, files, Options::new(random.hash_one(&1u8))) {
         Ok(store) => registry_in(store),
-        Err((error, left)) => Err(opening_fault(StoreFault::from(error), left.into_files())),
+        Err((error, files)) => Err(opening_fault(StoreFault::from(error), files)),
     }
 }
 
