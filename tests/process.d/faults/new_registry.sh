@@ -1,4 +1,5 @@
 # A registry that is made, and one that has other pages.
+. "$helpers/bench.sh"
 . "$helpers/python.sh"
 
 # How many bytes a page of the registry has, as SQLite's header says.
@@ -29,3 +30,4 @@ expect 'an older registry is opened' 0 'recovered 2' ''
 expect_pages 'an older registry that was opened' 4096
 
 run_stopped_calls 'a registry whose making is stopped' faults/new_registry.py
+finish
