@@ -6,6 +6,8 @@
 # What the program makes of three commands, of which the stored registry has the last one pending. The registries are the
 # same byte for byte once it was carried out, and were so before but for the page of the table `intents`.
 fresh_bench three-commands
+# One that is made now has smaller pages than the stored one.
+cp "$top/examples/empty.sqlite" "$registry"
 batch "$label$insert"
 expect 'the commands before the stopped one' 0 "$(lines 'k1 ok 1\nk2 ok 2')" ''
 expect_images 'the stored sectors are those of the insertion' pending-a pending-b
