@@ -2,9 +2,9 @@
 //! opening.
 //!
 //! `registry_files.rt` knows which files are a registry's: its own, and those that SQLite puts
-//! beside it, which `beside.rt` names. `unopened.rt` reads them by an overlay, so that nothing is
-//! written, and `unusable.rt` says why a registry can't be opened. `foreign.rt` keeps a database of
-//! another program from being opened.
+//! beside it, which `beside.rt` names. `opened.rt` opens or makes them. `unopened.rt` reads them by
+//! an overlay, so that nothing is written, and `unusable.rt` says why a registry can't be opened.
+//! `foreign.rt` keeps a database of another program from being opened.
 #![tactic(auto)]
 
 mod beside;

@@ -2,7 +2,7 @@
 //!
 //! The crate `sqlite` would make it too, with pages of 4,096 bytes. A command changes about nine
 //! pages, however long they are, and each is digested and logged whole: half of that length saves a
-//! quarter of a command's work. Files that hold a database keep its pages.
+//! sixth of a command's instructions. Files that hold a database keep its pages.
 
 ghost use Rattle.std.specs.Prelude.{IsTrue, IfOk};
 ghost use Rattle.sqlite.specs.Files.{file_state, IsOpened};

@@ -15,12 +15,6 @@ place = Bench(program, work)
 FAULTS = ["gmbench: F1 memory\n", "gmbench: F2 store\n", "gmbench: F3 disk\n"]
 LABEL = b"k1 label --mid 7 --did 1 gm0 a.img\n"
 wrong = []
-stops = 0
-
-
-def check(title, found, wanted):
-    if found != wanted:
-        wrong.append(f"{title}: {found!r}, and not {wanted!r}"[:600])
 
 
 def recover(**more):
@@ -39,17 +33,21 @@ def page_bytes():
 place.make(["a.img"], 9)
 images = place.contents_of_images()
 place.keep("before")
+stops = 0
 for title in place.stops(recover, place.registry, "a registry that is made"):
     stops += 1
     left = place.contents()
     look = place.run(["status", "--read-only"])
     if look != (0, "no mirrors\n", "") and (look[0], look[2]) not in [(3, fault) for fault in FAULTS]:
         wrong.append(f"{title}, a look: {look!r}"[:600])
-    check(f"{title}, what a look leaves", place.contents(), left)
-    check(f"{title}, the next opening", recover(), (0, "recovered 0\n", ""))
-    check(f"{title}, the pages", page_bytes(), 2048)
-    check(f"{title}, the images", place.contents_of_images(), images)
-    check(f"{title}, a command", place.run(["batch"], LABEL), (0, "k1 ok 1\n", ""))
+    expected = {
+        "what a look leaves": (place.contents(), left),
+        "the next opening": (recover(), (0, "recovered 0\n", "")),
+        "the pages": (page_bytes(), 2048),
+        "the images": (place.contents_of_images(), images),
+        "a command": (place.run(["batch"], LABEL), (0, "k1 ok 1\n", "")),
+    }
+    wrong += [f"{title}, {what}: {found!r}"[:600] for what, (found, wanted) in expected.items() if found != wanted]
 shown = f"a registry is made by the opening after each stop of its making ({stops} stops)"
 if stops == 0:
     wrong.append("no call is stopped")
