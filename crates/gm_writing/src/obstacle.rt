@@ -46,7 +46,7 @@ impl Obstacle {
             Obstacle::Uneven { bytes } => {
                 writeln!(
                     complaints,
-                    "{source} has {bytes} bytes, which is no multiple of 512"
+                    "the length of {source} is {bytes}, no multiple of 512"
                 )
             }
             Obstacle::TooLong {

@@ -84,7 +84,7 @@ expect 'no data' 1 'v not done' "v: $work/none has no bytes"
 at_bench write gm0 --first 0 --file - --key v </dev/null
 expect 'an empty input' 1 'v not done' 'v: the input has no bytes'
 at_bench write gm0 --first 0 --file "$work/uneven" --key v
-expect 'one byte' 1 'v not done' "v: $work/uneven has 1 bytes, which is no multiple of 512"
+expect 'one byte' 1 'v not done' "v: the length of $work/uneven is 1, no multiple of 512"
 at_bench write gm0 --first 101 --file "$work/data" --key v
 expect 'data that end after the mirror' 1 'v not done' \
     "v: $work/data is longer than the 101888 bytes left of gm0's 300 sectors"

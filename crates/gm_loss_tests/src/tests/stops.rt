@@ -209,16 +209,24 @@ fn stop_twice(rt: &(impl Abort + AllocGlobal), loss: Loss, from: &Media, stop: S
     stop_at_each(rt, loss, &again, stop, &loss.repeated(loss.behind));
 }
 
-#[test]
-fn a_repeated_loss_whose_shelf_stops_is_repeated(rt: HostRuntime) {
+// A loss that stopped so, and is stopped so again at each call of the shelf.
+fn stop_repeated(rt: &(impl Abort + AllocGlobal), stop: Stop) {
     for loss in LOSSES {
-        let from = loss.start(&rt);
-        for stop in [Stop::Before, Stop::Behind] {
-            for first in 1..8 {
-                stop_twice(&rt, loss, &from, stop, first);
-            }
+        let from = loss.start(rt);
+        for first in 1..8 {
+            stop_twice(rt, loss, &from, stop, first);
         }
     }
+}
+
+#[test]
+fn a_repeated_loss_whose_shelf_stops_before_a_call_is_repeated(rt: HostRuntime) {
+    stop_repeated(&rt, Stop::Before);
+}
+
+#[test]
+fn a_repeated_loss_whose_shelf_stops_after_a_call_is_repeated(rt: HostRuntime) {
+    stop_repeated(&rt, Stop::Behind);
 }
 
 // What a loss leaves whose store stops: what it came to, whether the store stopped, and both media
