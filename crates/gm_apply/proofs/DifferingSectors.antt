@@ -1,5 +1,5 @@
 -- By how many sectors two providers differ.
-use Rattle.std.proofs.Common.{◌≡◌, ◌≢◌, ◌∙◌, ◌<◌, ◌≤◌, ◌+◌, ◌-◌, ℕ, zero, suc, List, length, if◌then◌else◌, inl, inr, refl, sym, ap, subst, arith, add-one, add-suc, add-zero, add_assoc}
+use Rattle.std.proofs.Common.{◌≡◌, ◌≢◌, ◌∙◌, ◌<◌, ◌≤◌, ◌+◌, ◌-◌, ℕ, zero, suc, List, length, if◌then◌else◌, inl, inr, refl, sym, ap, subst, arith, add-suc, add-zero, add_assoc}
 use Rattle.std.specs.Str.{bytes_eq}
 use Rattle.std.proofs.lemmas.Bool.{cases_lt}
 use Rattle.gm_lists.proofs.Order.{differ, same_from}
@@ -10,14 +10,6 @@ use Rattle.gm_apply.specs.DifferingData.{IsDifference, IsWithin, count_differing
 use Rattle.gm_apply.specs.declared.differing_data.Difference.{Difference}
 
 module _ (a b : ℕ → List ℕ) where
-  -- one sector more
-  pub count_one_equal : (n : ℕ) → a n ≡ b n → count_differing a b (n + 1) ≡ count_differing a b n
-  count_one_equal n e = rw (add-one n, same_from (a n) (b n) e) (add-zero (count_differing a b n))
-
-  pub count_one_differs : (n : ℕ) → a n ≢ b n
-      → count_differing a b (n + 1) ≡ count_differing a b n + 1
-  count_one_differs n e = rw (add-one n, differ (a n) (b n) e) refl
-
   -- of equal ones none differs
   pub count_equal : (n : ℕ) → ((k : ℕ) → k < n → a k ≡ b k) → count_differing a b n ≡ 0
   count_equal zero equal = refl
@@ -122,14 +114,6 @@ difference_read x p q from n a b d along blong aread bread within is =
     difference_same (sector_of a) (sector_of b) (sectors_from x p from) (sectors_from x q from) n d
     (λ k low. aread k (omega (arith, low, along)))
     (λ k low. bread k (omega (arith, low, blong))) within.first is
-
--- of none none differs
-pub difference_none : (a b : ℕ → List ℕ) → IsDifference a b 0 (record { sectors = 0; first = 0 })
-difference_none a b = record {
-  sectors = refl;
-  equal = λ k low. absurd (omega (arith, low));
-  first = λ low. absurd (omega (arith, low));
-}
 
 -- the first one stays within both
 pub within_then : (n m d e f : ℕ) → d ≤ n → e ≤ m → (d < n → f ≡ d) → (n ≤ d → f ≡ n + e)

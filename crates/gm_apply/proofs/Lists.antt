@@ -173,12 +173,6 @@ module _ (s : Records) (bytes : List (List ℕ)) (size sizes : Sizes) (same : si
 
 -- ---- before the first of them, and after the last
 
-pub reaches_none : (s : Records) (size : Sizes) (w : Image) (v : View) → Reaches s size [] w v v
-reaches_none s size w v = record {
-  seen = λ q j. refl;
-  left = λ x left. (x, left, λ q j. refl);
-}
-
 -- when all is done, no dirt is left
 pub places_new : (s : Records) (size : Sizes) (ts : List Intent) (w : Image) (old new : View)
     → LeaveNoDirt ts → Reaches s size ts w old new → PlacesAreNew (is_place size ts) w old new

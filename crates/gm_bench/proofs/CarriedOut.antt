@@ -29,11 +29,6 @@ settled_records w t r = record {
   commands = r.commands;
 }
 
--- if no intent is pending, nothing waits to be settled
-pub waits_none : (waiting : Waiting) → WaitsFor waiting [] []
-waits_none Nothing = (refl, refl)
-waits_none Done = tt
-
 pub nothing_else : (waiting : Waiting) (t : Tables) → HasNothingPending t
     → HasNothingElse waiting t
 nothing_else Nothing t none = none

@@ -14,7 +14,7 @@ use Rattle.gm_shelf.specs.declared.fault.ShelfFault.TheVariants as shelf
 use Rattle.gm_bench.specs.declared.fault.BenchFault.{BenchFault}
 use Rattle.gm_bench.specs.declared.fault.BenchFault.TheVariants.{Closed, Disk, Absent, Memory, Store, Unreadable}
 use Rattle.gm_bench.specs.declared.take_up_without.TakenUp.{TakenUp}
-use Rattle.gm_bench.specs.Faults.{IsBeforeWrites, IsOfCall, IsOfOpening, IsOfRegistry, of_store, of_shelf}
+use Rattle.gm_bench.specs.Faults.{IsBeforeWrites, IsOfOpening, of_store, of_shelf}
 use Rattle.gm_bench.specs.GivingUp.{IsUnwritten}
 
 -- what `?` passes on is the fault that it was given
@@ -32,17 +32,6 @@ pub no_disk : (f : StoreFault) → of_store f ≡ Disk → ⊥
 no_disk store.Memory e = absurd (let g : ⊥ = cc in g)
 no_disk store.Store e = absurd (let g : ⊥ = cc in g)
 no_disk store.Unreadable e = absurd (let g : ⊥ = cc in g)
-
-pub not_absent_store : (f : StoreFault) (p : List ℕ) → of_store f ≡ Absent p → ⊥
-not_absent_store store.Memory p e = absurd (let g : ⊥ = cc in g)
-not_absent_store store.Store p e = absurd (let g : ⊥ = cc in g)
-not_absent_store store.Unreadable p e = absurd (let g : ⊥ = cc in g)
-
-pub not_absent_shelf : (f : ShelfFault) (p : List ℕ) → of_shelf f ≡ Absent p → ⊥
-not_absent_shelf shelf.Memory p e = absurd (let g : ⊥ = cc in g)
-not_absent_shelf shelf.Absent p e = absurd (let g : ⊥ = cc in g)
-not_absent_shelf shelf.Range p e = absurd (let g : ⊥ = cc in g)
-not_absent_shelf shelf.Device p e = absurd (let g : ⊥ = cc in g)
 
 -- a failure of the disk is one of the device, if no provider and no sector is lacking
 pub of_disk : (f : ShelfFault) (P : Type 0) → of_shelf f ≡ Disk → (f ≡ shelf.Absent → ⊥)
@@ -84,15 +73,6 @@ pub of_failed : (f : StoreFault) → of_store f ≡ Store → f ≡ store.Store
 of_failed store.Memory e = cc
 of_failed store.Store e = refl
 of_failed store.Unreadable e = cc
-
--- a fault of a call that isn't the disk's is the registry's
-pub of_registry : (f : BenchFault) → IsOfCall f → (f ≡ Disk → ⊥) → IsOfRegistry f
-of_registry Memory of no_disk = tt
-of_registry Store of no_disk = tt
-of_registry Disk of no_disk = absurd (no_disk refl)
-of_registry Closed of no_disk = absurd of
-of_registry (Absent p) of no_disk = absurd of
-of_registry Unreadable of no_disk = tt
 
 -- what is passed on of a call that failed before anything was written
 pub passed_unwritten : (r : Result TakenUp BenchFault) (given : BenchFault)

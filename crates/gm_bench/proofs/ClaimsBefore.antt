@@ -30,9 +30,6 @@ module _ (u w : World) (sound : Sound u) (key : List ℕ) (ts : List Intent)
       (plan : Plan u key (Patch n first sectors) ts bytes w) (m : Mirror)
       (h : Has u.state.mirrors m)
       (syncid i : ℕ) (low : syncid ≤ m.syncid) where
-    raised : Mirror
-    raised = record m { syncid = m.syncid + 1 }
-
     patched_before : n ≡ m.name → data_at u w m.name syncid i ≡ u.holds m.name i
     patched_before is =
         let at : mirror_of u.state n ≡ Some m =

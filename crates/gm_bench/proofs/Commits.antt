@@ -14,7 +14,6 @@ use Rattle.gm_state.specs.Records.{Records}
 use Rattle.gm_state.specs.Rows.{Tables}
 use Rattle.gm_state.specs.World.{World, present}
 use Rattle.gm_changes.specs.After.{intents_of, reply_to}
-use Rattle.gm_changes.specs.Decides.{Changed}
 use Rattle.gm_rules.specs.Step.{Plan, CanAnswer, HasPlan}
 use Rattle.gm_rules.specs.AbstractCalls as run
 use Rattle.gm_rules.proofs.EveryPlan.{every_plan}
@@ -37,9 +36,6 @@ module _ {S H : Type 0} (g : Ghosts S) (j : ShelfGhosts H) (r s : Held S) (h : H
     (c : Command) (p : Planned) (words : List ℕ) (words_is : words ≡ words_of c)
     (lawful : IsLawful (j.view h)) (at : IsCarriedOut g j r h away ts bytes v u)
     (planned : IsPlanned u c p) (can : CanAnswer u key c) where
-  abbrev ch : Changed
-  ch = p.change
-
   -- the tables that it is accepted on
   abbrev rest : Tables
   rest = settled at.tables

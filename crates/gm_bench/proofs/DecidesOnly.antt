@@ -26,34 +26,10 @@ use Rattle.gm_bench.specs.Accepting.{OrStep, LeavesStep}
 use Rattle.gm_bench.specs.Faults.{IsOfRegistry}
 use Rattle.gm_bench.specs.GivingUp.{OnlyLooksUp, StaysUnlost}
 use Rattle.gm_bench.specs.Leading.{AllLead}
-use Rattle.gm_bench.specs.Recovering.{IsAt, IsCarriedOut, IsFound, IsShelfOf, Recovers}
+use Rattle.gm_bench.specs.Recovering.{IsCarriedOut, IsShelfOf, Recovers}
 use Rattle.gm_bench.proofs.RegistryLeaves.{leads_in}
 use Rattle.gm_registry.proofs.CallsLeave.{IsSettling, saved}
 use Rattle.gm_state.specs.Rows.{Tables}
-
-module _ {S H : Type 0} (g : Ghosts S) (j : ShelfGhosts H) (r : Held S) (h : H)
-    (away : Image) (ts : List Intent) (bytes : List (List ℕ)) (u w : World)
-    (at : IsAt g j r h away ts bytes u w) where
-  abbrev pub found_of : IsFound g j r h away ts bytes u w
-  found_of = record { tables = at.tables; has = at.has; sizes = at.sizes; leads = at.leads }
-
--- a shelf that was only read
-module _ {S H : Type 0} (g : Ghosts S) (j : ShelfGhosts H) (r : Held S) (h k : H)
-    (away : Image) (ts : List Intent) (bytes : List (List ℕ)) (u w : World)
-    (at : IsAt g j r h away ts bytes u w)
-    (quiet : IsQuiet (j.view h) (j.view k)) (same : j.size k ≡ j.size h) where
-  -- the same tables, in whatever phase
-  abbrev pub at_read : (s : Held S) → HasTables g s at.tables
-      → IsAt g j s k away ts bytes u w
-  at_read s has = record {
-    tables = at.tables;
-    has = has;
-    sizes = at.sizes ∙ sym same;
-    at_hand = subst (λ (z : Sizes). (t : Intent) → Has ts t → IsAtHand z t) (sym same) at.at_hand;
-    leads = subst (λ (z : Sizes). AllLead at.tables ts bytes z away (j.view k).may_leave u w)
-        (sym same)
-        (λ x left. at.leads x (quiet.crash x left));
-  }
 
 -- a shelf that wasn't touched
 pub quiet_same : {H : Type 0} (j : ShelfGhosts H) (h k : H) → k ≡ h

@@ -1,5 +1,5 @@
 -- What is found of the loss of a component, under a key that is free.
-use Rattle.std.proofs.Common.{◌≡◌, ◌∙◌, ℕ, ◌<◌, ◌≤◌, IsTrue, true, false, List, [], ◌∷◌, ◌++◌, length, Option, Some, None, refl, sym, ap, subst, arith, true≢false}
+use Rattle.std.proofs.Common.{◌≡◌, ◌∙◌, ℕ, ◌<◌, ◌≤◌, IsTrue, true, List, [], ◌∷◌, ◌++◌, length, Option, Some, None, refl, sym, ap, subst, arith, true≢false}
 use Rattle.std.specs.Prelude.{IsSome, IsSomeAnd, MatchOption, option_map}
 use Rattle.std.specs.List.{list_all}
 use Rattle.std.proofs.lemmas.Bool.{and_parts}
@@ -37,23 +37,8 @@ none_is : (o : Option (List ℕ)) → o ≡ None → IsSome o → ⊥
 none_is None e some = absurd (true≢false (sym some))
 none_is (Some x) e some = absurd (let no : ⊥ = cc in no)
 
-low_loss : (q : LossRefusal) → 2 ≤ number_of_loss q
-low_loss (ByCall NoKey) = omega arith
-low_loss (ByCall KeyTaken) = omega arith
-low_loss (ByCall NoRoom) = omega arith
-low_loss (ByCall (ByRules r)) = omega (arith, at_least_five r)
-low_loss OnlySource = omega arith
-low_loss OnShelf = omega arith
-
 module _ (w : World) (sound : Sound w) (ts : List Intent) (bytes : List (List ℕ))
     (key p : List ℕ) where
-  pub no_key : is_key key ≡ false → IsJudged w ts bytes key p (Refused (ByCall NoKey))
-  no_key bad = record {
-    fresh = λ a k. true≢false (sym (sound.answers.fit a k.kept).key ∙ (ap is_key k.key_is ∙ bad));
-    applies = bad;
-    least = λ q _. low_loss q;
-  }
-
   module _ (key_ok : is_key key ≡ true) where
     -- what may be told of a key that has the form of one
     with_key : (n : ℕ) → ((q : LossRefusal) → 3 ≤ number_of_loss q → n ≤ number_of_loss q)

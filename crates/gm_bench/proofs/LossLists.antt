@@ -1,6 +1,6 @@
 -- Places that intents name: for what is pending after a loss.
-use Rattle.std.proofs.Common.{◌≡◌, inl, inr, ℕ, ◌+◌, ◌-◌, ◌<◌, ◌≤◌, ◌&&◌, ◌||◌, Bool, true, false, refl, arith, List, Option, Some, None, nat_le, nat_lt, eqb-true, eq-eqb}
-use Rattle.std.proofs.lemmas.Bool.{cases_Bool, and_parts}
+use Rattle.std.proofs.Common.{◌≡◌, ℕ, ◌+◌, ◌-◌, ◌<◌, ◌≤◌, ◌&&◌, ◌||◌, Bool, true, false, refl, arith, List, Option, Some, None, nat_le, nat_lt, eqb-true, eq-eqb}
+use Rattle.std.proofs.lemmas.Bool.{and_parts}
 use Rattle.std.proofs.lemmas.Bool.Decides.{nat_tests}
 use Rattle.gm_metadata.specs.Images.{same_label}
 use Rattle.gm_state.specs.Intents.{is_last}
@@ -17,14 +17,6 @@ last_is (Some k) n j e l = let h : k ≡ n = cc in let i : k ≡ j + 1 = eqb-tru
 pub last_at : (o : Option ℕ) (n j : ℕ) → o ≡ Some n → 0 < n → j ≡ n - 1 → is_last o j ≡ true
 last_at None n j e l i = cc
 last_at (Some k) n j e l i = let h : k ≡ n = cc in eq-eqb k (j + 1) (omega (arith, h, l, i))
-
-pub not_last : (o : Option ℕ) (n j : ℕ) → o ≡ Some n → j + 1 < n → is_last o j ≡ false
-not_last o n j e l =
-    elim (cases_Bool (is_last o j)) [
-      | inl t ↦ (let i : j ≡ n - 1 = last_is o n j e t in
-          absurd (omega (arith, i, l)))
-      | inr f ↦ f
-    ]
 
 -- what a Copy and a Patch say of the sectors that they bring
 pub range_of : (t : List ℕ) (a b : ℕ) (q : List ℕ) (j : ℕ)

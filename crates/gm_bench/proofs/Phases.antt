@@ -13,7 +13,7 @@ use Rattle.gm_bench.specs.declared.phase.Phase.TheVariants as phase
 use Rattle.gm_metadata.specs.Images.{Sizes}
 use Rattle.gm_bench.specs.Planning.{IsWith, IsWorkAtHand}
 use Rattle.gm_bench.specs.Presence.{AreAtHand}
-use Rattle.gm_bench.specs.Phases.{IsUndone, TakesCommands, TakesNext, HasWork, HasDone, answer_of, phase_after, phase_carried, phase_of, progress_after}
+use Rattle.gm_bench.specs.Phases.{IsUndone, TakesCommands, TakesNext, answer_of, phase_carried, phase_of, progress_after}
 
 -- a bench that takes a command and didn't fail is at rest
 pub takes_ready : (p : Progress) → TakesCommands p → (p ≡ Failed → ⊥) → p ≡ Ready
@@ -55,34 +55,8 @@ never_pending (Pending work) (inr t) is = let no : ⊥ = cc in no
 never_pending (Applied work) takes is = cc
 never_pending Failed takes is = cc
 
-pub work_failed : (p : Progress) → HasWork p → ((work : Work) → p ≡ Pending work → ⊥) → p ≡ Failed
-work_failed Ready (inl t) other = cc
-work_failed Ready (inr t) other = cc
-work_failed (Pending work) t other = absurd (other work refl)
-work_failed (Applied work) (inl t) other = cc
-work_failed (Applied work) (inr t) other = cc
-work_failed Failed t other = refl
-
-pub done_failed : (p : Progress) → HasDone p → ((work : Work) → p ≡ Applied work → ⊥) → p ≡ Failed
-done_failed Ready (inl t) other = cc
-done_failed Ready (inr t) other = cc
-done_failed (Pending work) (inl t) other = cc
-done_failed (Pending work) (inr t) other = cc
-done_failed (Applied work) t other = absurd (other work refl)
-done_failed Failed t other = refl
-
 pub pending_work : (a b : Work) → Pending a ≡ Pending b → a ≡ b
 pending_work a b e = cc
-
-pub applied_work : (a b : Work) → Applied a ≡ Applied b → a ≡ b
-applied_work a b e = cc
-
--- what is told is the phase that a caller sees
-pub phase_told : (before : Progress) (it : Accepted)
-    → phase_of (progress_after before it) ≡ phase_after (phase_of before) (answer_of it)
-phase_told before (accepted.Done n reply work) = refl
-phase_told before (accepted.Repeated n reply) = refl
-phase_told before (accepted.Refused why) = refl
 
 -- a bench that didn't fail hasn't failed after an answer
 pub carried_open : (p q : Progress) (a : Answer) → (p ≡ Failed → ⊥)

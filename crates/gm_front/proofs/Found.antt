@@ -1,15 +1,13 @@
 -- What a bench at rest shows is the world's.
-use Rattle.std.proofs.Common.{◌≡◌, ◌∙◌, ◌-◌, ◌==◌, ℕ, List, [], refl, sym, ap, subst, Option, Some, None, Result, Ok, Err}
+use Rattle.std.proofs.Common.{◌≡◌, [], ap, subst, Option, Some, Result, Ok, Err}
 use Rattle.std.specs.Result.{OnOk}
-use Rattle.std.specs.Prelude.{if◌then◌else◌}
-use Rattle.std.specs.Option.{option_and_then}
 use Rattle.sqlite_trees.specs.declared.store.Store.{Ghosts}
 use Rattle.sqlite_trees.specs.declared.store.Store.{Ghosts as StoreGhosts}
 use Rattle.sqlite.specs.Held.{Held}
-use Rattle.gm_metadata.specs.Images.{Image, Sizes, SameThere}
+use Rattle.gm_metadata.specs.Images.{Image}
 use Rattle.gm_shelf.specs.Disk.{IsLawful}
 use Rattle.gm_shelf.specs.declared.shelf.Shelf.{Ghosts as ShelfGhosts}
-use Rattle.gm_state.specs.World.{World, present}
+use Rattle.gm_state.specs.World.{World}
 use Rattle.gm_rows.specs.ReadableTables.{AreRecordsOf, AreTablesOf}
 use Rattle.gm_registry.specs.Registry.{DiskKept}
 use Rattle.gm_bench.specs.declared.bench.Bench.{Bench}
@@ -20,46 +18,16 @@ use Rattle.gm_bench.specs.Calls.{LooksOn}
 use Rattle.gm_bench.specs.Leading.{whole}
 use Rattle.gm_bench.specs.Owed.{LookDoes}
 use Rattle.gm_bench.specs.Recovering.{IsAt, LeavesOnly}
-use Rattle.gm_shelf.specs.LastSector.{last_sector}
 use Rattle.gm_bench.proofs.CarriedOut.{done_at_rest}
 use Rattle.gm_bench.proofs.GatheredFacts.{are_records}
 use Rattle.gm_bench.proofs.Looks.{looked_at}
 use Rattle.gm_bench.proofs.ReadTables.{tables_of}
-use Rattle.gm_bench.proofs.ShelfProviders.{masked, there_full, whole_there}
-use Rattle.gm_bench.proofs.WorldAtRest.{at_rest}
 use Rattle.gm_front.specs.Demands.{Demand}
 use Rattle.gm_front.specs.Findings.{Fails, LeavesDemand}
-
--- images that are the same on what is there have the same last sectors
-by_size : (size : Sizes) (x y : Image) (p : List ℕ) → SameThere size x y
-    → (o : Option ℕ) → size p ≡ o
-    → option_and_then (λ n. if n == 0 then None else Some (x p (n - 1))) o
-    ≡ option_and_then (λ n. if n == 0 then None else Some (y p (n - 1))) o
-by_size size x y p same None is = refl
-by_size size x y p same (Some n) is =
-    ap (λ s. if n == 0 then None else Some s) (same p (rw is refl) (n - 1))
-
-pub last_same : (size : Sizes) (x y : Image) (p : List ℕ) → SameThere size x y
-    → last_sector size x p ≡ last_sector size y p
-last_same size x y p same = by_size size x y p same (size p) refl
 
 module _ {S H : Type 0} (g : Ghosts S) (j : ShelfGhosts H) (r : Held S) (h : H)
     (away : Image) (u : World) (at : IsAt g j r h away [] [] u u)
     (lawful : IsLawful (j.view h)) where
-  -- what is seen of the providers that are there is what they hold
-  seen_there : SameThere (j.size h) (j.view h).seen u.shelf
-  seen_there q here i =
-      let leads = (at.leads (j.view h).seen lawful.holds_now).0 in
-      sym (whole_there (j.size h) away (j.view h).seen q here i)
-      ∙ at_rest at.tables (whole (j.size h) away (j.view h).seen) u leads q
-      (there_full (j.size h) u.size (masked u (j.size h) at.sizes) q here) i
-
-  -- so are the last sectors
-  pub last_shown : (p : List ℕ)
-      → last_sector (j.size h) (j.view h).seen p ≡ last_sector (present u) u.shelf p
-  last_shown p = last_same (j.size h) (j.view h).seen u.shelf p seen_there
-      ∙ ap (λ (z : Sizes). last_sector z u.shelf p) (sym at.sizes)
-
   -- what the tables of mirrors and components say are the records
   pub records_shown : AreRecordsOf at.tables u.state
   records_shown = are_records g j r h away [] [] u u (done_at_rest g j r h away u at) lawful

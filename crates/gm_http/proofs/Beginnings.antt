@@ -1,36 +1,12 @@
 -- What the bytes that were read say of the input that they stand at the front of.
-use Rattle.std.proofs.Common.{◌≡◌, ◌∙◌, ◌≤◌, ℕ, sym, ap, subst, arith, List, [], ◌++◌, length, take, drop, map, min, Option, Some, None, IfSome, append-nil, append_assoc, length-append, take-append-drop}
-use Rattle.std.proofs.lemmas.List.{length-map, length-take, take-append-le}
+use Rattle.std.proofs.Common.{◌≡◌, ◌∙◌, ◌≤◌, ℕ, sym, ap, subst, arith, List, [], ◌++◌, length, take, drop, Option, Some, None, IfSome, append-nil, append_assoc, length-append, take-append-drop}
+use Rattle.std.proofs.lemmas.List.{take-append-le}
 use Rattle.std.proofs.Math.Seq.{take-append_seam}
 use Rattle.std.proofs.KnownBytes.{Consumes-nil, Consumes-trans}
 use Rattle.std.specs.Io.KnownBytes.{IsAtEnd}
-use Rattle.httparse.specs.Grammar.{HasNoRequest, ReadsRequest, RequestHead, print_request}
-use Rattle.httparse.specs.Spans.{IsRequestAt, IsRequestOf, IsRequestWithin, RequestOverflows, header_bytes, name_and_value}
-use Rattle.httparse.specs.declared.spans.HeaderSpan.{HeaderSpan}
-use Rattle.httparse.specs.declared.spans.RequestSpans.{RequestSpans}
-use Rattle.gm_http.specs.Input.{HasNoHead, IsHead, Takes}
-
--- there are no more fields than room for them
-fields_fit : {bytes : List ℕ} {headers : List HeaderSpan} {r : RequestSpans} {h : RequestHead}
-    → IsRequestAt bytes headers r h → length headers ≡ 64 → length h.fields ≤ 64
-fields_fit {bytes} {headers} {r} {h} at room =
-    let a = ap length at.fields in
-    let b : length (map (header_bytes bytes) (take r.headers headers))
-    ≡ length (take r.headers headers) = length-map _ _ in
-    let c : length (map name_and_value h.fields) ≡ length h.fields = length-map _ _ in
-    let d : length (take r.headers headers) ≡ min r.headers (length headers) = length-take _ _ in
-    omega arith
-
-pub found_head : (bytes : List ℕ) (headers : List HeaderSpan) (r : RequestSpans)
-    → IsRequestOf bytes headers r × IsRequestWithin bytes headers r → length headers ≡ 64
-    → length bytes ≤ 8192 → IsHead bytes headers r
-found_head bytes headers r h room short = record {
-  head = h.0.0;
-  at = h.0.1;
-  within = h.1;
-  short = omega (arith, h.0.1.len, h.1.section.len_fits);
-  few = fields_fit h.0.1 room;
-}
+use Rattle.httparse.specs.Grammar.{HasNoRequest, ReadsRequest, print_request}
+use Rattle.httparse.specs.Spans.{RequestOverflows}
+use Rattle.gm_http.specs.Input.{HasNoHead, Takes}
 
 pub nothing_is_no_request : HasNoRequest []
 unfolding print_request

@@ -1,7 +1,6 @@
 -- What a line asks, by whether it is text.
-use Rattle.std.proofs.Common.{◌≡◌, ◌≤◌, ◌∙◌, ℕ, nat_lt, Bool, true, false, true≢false, refl, sym, ap, arith, List, ◌∷◌, Option, Some, None, codes, length, take}
+use Rattle.std.proofs.Common.{◌≡◌, ◌≤◌, ◌∙◌, ℕ, nat_lt, Bool, true, false, true≢false, refl, sym, ap, arith, List, ◌∷◌, Option, Some, None, codes, length}
 use Rattle.std.proofs.lemmas.Bool.Decides.{nat_tests}
-use Rattle.std.proofs.lemmas.List.{length-take}
 use Rattle.std.proofs.lemmas.Str.{IsUtf8-from_is_utf8, is_utf8-from_IsUtf8}
 use Rattle.std.specs.Str.{IsUtf8, is_utf8}
 use Rattle.gm_commands.specs.declared.command.Command.{Command}
@@ -27,10 +26,6 @@ unfolding asked
 asked_bytes text short not =
     let test : nat_lt 131072 (length text) ≡ false = grind (arith, nat_tests) in
     rw (test, no_text text _ refl not) refl
-
--- a beginning of the buffer
-pub short_front : (n : ℕ) (line : List ℕ) → n ≤ 131072 → IsShort (take n line)
-short_front n line h = rw length-take (omega (arith, h))
 
 abbrev is_call : Asked → Bool
 is_call Nothing = false

@@ -8,7 +8,7 @@ use Rattle.std.specs.Io.BufRead.{drop_through}
 use Rattle.std.specs.Io.KnownBytes.{Consumes, IsAtEnd}
 use Rattle.gm_lines.specs.Input.{line_at, is_one_line, lines_of, onto}
 use Rattle.gm_lines.specs.Asked.{IsAheadIn, IsNext}
-use Rattle.gm_lines.specs.Input.{BeginsWith, Fits, IsLine, IsCopied, IsTaken, WhereEnded, TakesPiece, Begins}
+use Rattle.gm_lines.specs.Input.{BeginsWith, IsLine, IsCopied, IsTaken, WhereEnded, TakesPiece, Begins}
 use Rattle.gm_lines.specs.declared.ahead.Ahead.{Ahead}
 use Rattle.gm_lines.specs.declared.lines.Line.{Line}
 use Rattle.gm_lines.specs.declared.lines.Line.TheVariants.{End, Whole, Long}
@@ -104,22 +104,6 @@ line_last (b ∷ seen) h =
 -- the count says which
 abbrev pub found_of : ℕ → Line
 found_of count = if nat_lt count 131073 then Whole count else Long
-
-fits_by : (count : ℕ) (whole : Bool) → nat_lt count 131073 ≡ whole
-    → Fits (if whole then Whole count else Long)
-fits_by count true test = grind (arith, nat_tests)
-fits_by count false test = tt
-
-pub found_fits : (count : ℕ) (found : Line) → found ≡ found_of count → Fits found
-found_fits count found e = rw e (fits_by count _ refl)
-
-ended_by : (count : ℕ) (some : Bool) → Fits (if some then found_of count else End)
-ended_by count true = fits_by count _ refl
-ended_by count false = tt
-
-pub ended_fits : (count : ℕ) (found : Line)
-    → found ≡ (if nat_lt 0 count then found_of count else End) → Fits found
-ended_fits count found e = rw e (ended_by count _)
 
 -- what was counted is the line
 pub is_found : (bytes line seen rest : List ℕ) (count : ℕ) (whole : Bool)

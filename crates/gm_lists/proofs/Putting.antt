@@ -288,14 +288,6 @@ module _ {X : Type 0} (key : X → List ℕ) where
             (put_or key x ys z h)
       ]
 
-  -- a record in place of one of its name gives each record back
-  pub put_back : (x : X) (ys : List X) → Ascends key ys → (y : X) → Has ys y → key y ≡ key x
-      → (z : X) → Has (put key x ys) z → (o : X) × Has ys o × (key o ≡ key z)
-      × ((x ≡ z) × (o ≡ y) ⊎ (o ≡ z))
-  put_back x ys a y h e z k =
-      ⊎_elim (λ (s : x ≡ z). (y, h, e ∙ ap key s, inl (s, refl)))
-      (λ (o : Has ys z × (key z ≢ key x)). (z, o.0, refl, inr refl)) (put_cases x ys a z k)
-
 -- ---- what is taken away
 
 pub filter_id : {X : Type 0} (q : X → Bool) (xs : List X) → ((x : X) → Has xs x → q x ≡ true)

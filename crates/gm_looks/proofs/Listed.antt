@@ -1,7 +1,7 @@
 -- What is listed of the components that were looked at so far.
-use Rattle.std.proofs.Common.{◌≡◌, ◌∙◌, ◌⊎◌, inl, inr, ⊎_elim, ℕ, zero, suc, ◌+◌, ◌-◌, ◌<◌, ◌≤◌, true, ◌↔◌, refl, sym, ap, subst, arith, List, [], ◌∷◌, ◌++◌, length, take, get_or, Option, Some}
+use Rattle.std.proofs.Common.{◌≡◌, ◌∙◌, ◌⊎◌, inl, inr, ⊎_elim, ℕ, zero, suc, ◌+◌, ◌<◌, ◌≤◌, true, refl, sym, ap, subst, arith, List, [], ◌∷◌, ◌++◌, length, take, get_or, Option, Some}
 use Rattle.std.proofs.lemmas.List.{take_more, take_all}
-use Rattle.gm_metadata.specs.Images.{Image, Sizes, Same, same_label}
+use Rattle.gm_metadata.specs.Images.{same_label}
 use Rattle.gm_state.specs.declared.records.Mirror.{Mirror}
 use Rattle.gm_state.specs.declared.records.Component.{Component}
 use Rattle.gm_state.specs.Intents.{IsOf}
@@ -12,7 +12,6 @@ use Rattle.gm_lists.proofs.Finding.{find_one}
 use Rattle.gm_lists.proofs.Order.{same_from}
 use Rattle.gm_state.proofs.TestsTellRules.{member}
 use Rattle.gm_lists.proofs.Lists.{Has-push, filter-Has}
-use Rattle.gm_looks.specs.Audits.{IsAsRegistered, IsAudit}
 use Rattle.gm_looks.proofs.Pushed.{has_left, has_last}
 
 -- ---- one component
@@ -97,14 +96,6 @@ module _ {X : Type 0} (key : X → List ℕ) (Told : Mirror → Component → X 
         → Right m k ⊎ ((e : X) × Has list e × (key e ≡ k.provider))
     pub among : (e : X) → Has list e → (k : Component) × Has done k × (k.provider ≡ key e)
     pub ascend : Ascends key list
-
-  pub none_so_far : (s : Records) → SoFar s [] []
-  none_so_far s = record {
-    told = λ e h. absurd h;
-    others = λ m k o h. absurd h;
-    among = λ e h. absurd h;
-    ascend = tt;
-  }
 
   module _ (s : Records) (state : IsState s) (i : ℕ) (k : Component)
       (low : i < length s.components) (is : k ≡ get_or s.components i k) (list : List X)

@@ -72,14 +72,6 @@ pub record ShownSoFar (size : Sizes) (seen : Image) (done : List (List ℕ))
   pub among : (p : Provider) → Has ps p → Has done p.name
   pub once : DistinctNames ps
 
-pub none_shown : (size : Sizes) (seen : Image) → ShownSoFar size seen [] []
-none_shown size seen = record {
-  each = λ p h. absurd h;
-  all = λ name h. absurd h;
-  among = λ p h. absurd h;
-  once = tt;
-}
-
 module _ (size : Sizes) (seen : Image) (names : List (List ℕ)) (are : AreNames size names) where
   -- a name of the shelf isn't absent
   pub not_absent : (i : ℕ) (name : List ℕ) → i < length names → name ≡ get_or names i name

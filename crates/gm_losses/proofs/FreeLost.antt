@@ -42,16 +42,6 @@ module _ (s : Records) (size : Sizes) (seen : Image) (p : List ℕ) where
   abbrev pub AreData : Loss → Type 0
   AreData x = LosesData s size seen p x
 
-  -- of an image that can't be taken nothing is lost
-  module _ (no : (n : ℕ) → IsFree s size seen p n → ⊥) where
-    pub none_labelled : (x : Loss) → IsDatabase x ⊎ IsLastSector x → ⊥
-    none_labelled x (inl d) = no d.1 d.2
-    none_labelled x (inr l) = no l.1 l.2
-
-    pub none_inserted : (x : Loss) → IsDatabase x ⊎ AreData x → ⊥
-    none_inserted x (inl d) = no d.1 d.2
-    none_inserted x (inr l) = no l.2 l.3
-
   module _ (image : FreeImage) (is : IsFreeImage s size seen p image) where
     same_sectors : (n : ℕ) → IsFree s size seen p n → n ≡ image.sectors
     same_sectors n free = some_other (size p) n image.sectors free.size_is is.free.size_is

@@ -1,6 +1,5 @@
 pub mod FirstData
 pub mod FreeLost
 pub mod IntactFound
-pub mod LeavingLost
 pub mod LeftFound
 pub mod Listed

@@ -40,9 +40,6 @@ module _ (A : Type 0) (IsOne : Loss → Type 0) where
     order = are.order;
   }
 
-  pub not_given : (A → ⊥) → AreJust (λ x. A × IsOne x) []
-  not_given never = none_lost (λ x. A × IsOne x) (λ x is. never is.0)
-
 pub is_gone : {X : Type 0} (o : Option X) → is_some o ≡ false → o ≡ None
 is_gone None e = refl
 is_gone (Some x) e = absurd (let never : ⊥ = cc in never)

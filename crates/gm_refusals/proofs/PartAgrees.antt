@@ -161,16 +161,6 @@ module _ (s : Records) (c : Command) (mids : List ℕ) (state : IsState s) where
       let home = state.homes k h in
       keeps k home.0 home.1 home.2 (asked_name n e home.0 (home.2 ∙ same_is k.mirror n t)))
 
-  -- a component of the named mirror is one of the part
-  pub of_part : (n : List ℕ) → name_of c ≡ Some n → (m : Mirror) (k : Component) → IsOf s m k
-      → m.name ≡ n → IsOf (part_of s c mids) m k
-  of_part n e m k o is = record {
-    mirror = filter-Has (is_asked s c mids) s.mirrors m o.mirror (asked_name n e m is);
-    component = subst (λ (x : List ℕ). Has (members (part_of s c mids).components x) k) (sym is)
-        (subst (λ (l : List Component). Has l k) (sym (same_members n e))
-        (subst (λ (x : List ℕ). Has (members s.components x) k) is o.component));
-  }
-
   pub same_component : (p : List ℕ) → Has (providers_of c) p
       → component_of (part_of s c mids) p ≡ component_of s p
   same_component p i =

@@ -10,7 +10,7 @@ use Rattle.sqlite.specs.declared.error.Error.{Error}
 use Rattle.sqlite.specs.Listing.{understood}
 use Rattle.sqlite.specs.Given.{IsPlain}
 use Rattle.sqlite.specs.State.{CommitsShowing, FailsToQuery, Shown, Survives}
-use Rattle.sqlite.proofs.StateLemmas.{survives_then, survives_weaker}
+use Rattle.sqlite.proofs.StateLemmas.{survives_then}
 use Rattle.sqlite_rows.proofs.Reading.{failed_by, read_at_most, read_by}
 use Rattle.gm_rows.specs.Schema.{registry_schema}
 use Rattle.gm_registry.specs.Reads.{IsOurSchema}
@@ -95,19 +95,6 @@ pub never_ok : {X E : Type 0} (result : Result X E) (P : E → Type 0) (Q : Type
     → IsErrAnd result P → OnOk result Q
 never_ok (Ok x) P Q none = absurd none
 never_ok (Err e) P Q it = tt
-
--- a write that was refused before it wrote
-pub unwritten : {S X E : Type 0} (g : Ghosts S) (old new : Held S) (result : Result X E) (P : E
-    → Type 0) (after : Tables → Tables) → IsErrAnd result P → of.Reads g old new
-    → of.Writes g old new result after
-unwritten g old new (Ok x) P after none read = absurd none
-unwritten g old new (Err e) P after err read = record {
-  done = λ kept. tt;
-  refused = λ kept t was is. read.kept kept t was is;
-  left = λ t was. survives_weaker (state g old) (state g new) _ _ (λ _ db none. absurd none)
-      (read.left t was);
-  clean = read.clean;
-}
 
 -- a read, and then a write that asks for what the read found
 then_left : {S : Type 0} (g : Ghosts S) (a b c : Held S) (t : Tables) (N : Type 0) (after : Tables)

@@ -1,5 +1,5 @@
 -- A store of the first schema that is carried over holds the tables that it held.
-use Rattle.std.proofs.Common.{◌≡◌, ◌∙◌, ◌⊎◌, inl, inr, ℕ, true, List, [], ◌∷◌, IsTrue, refl, sym, ap, subst, arith}
+use Rattle.std.proofs.Common.{◌≡◌, ◌∙◌, ◌⊎◌, inl, inr, true, List, [], ◌∷◌, IsTrue, refl, sym, ap, subst, arith}
 use Rattle.std.proofs.lemmas.Bool.{true≢false}
 use Rattle.sqlite.specs.Effect.{Database}
 use Rattle.sqlite.specs.Order.{Row}
@@ -7,7 +7,6 @@ use Rattle.sqlite.specs.Held.{Held, state}
 use Rattle.sqlite.specs.State.{State, HasCleanDisk, KeepsCommit, Survives, IsUnchanged, IsRolledBack}
 use Rattle.sqlite.proofs.StateLemmas.{survives_then, survives_weaker}
 use Rattle.sqlite_catalog.specs.Listing.{IsSound}
-use Rattle.sqlite_rows.specs.Numbers.{TakesMore}
 use Rattle.sqlite_rows.specs.Reads.{HasReadOver}
 use Rattle.sqlite_rows.proofs.Statements.{survives_if}
 use Rattle.gm_rows.specs.Schema.{first_schema}
@@ -21,7 +20,6 @@ use Rattle.sqlite_rows.proofs.Bags.{keeps_none}
 use Rattle.gm_state.specs.Rows.{Tables}
 use Rattle.gm_rows.specs.Rows.{about_values, mirror_values, component_values, intent_values, command_values, patch_values}
 use Rattle.gm_rows.specs.Tables.{Holds, HoldsFirst, SeesTables, SeesFirst, SeesRegistry}
-use Rattle.gm_registry.specs.Fitting.{HasRoom}
 use Rattle.gm_registry.specs.Opening.{IsAsBefore, IsBeingMade, IsCarriedOver, IsFirstInside, IsNumbered, IsOfRegistry, SeesFirstRegistry, SeesFirstStore}
 use Rattle.gm_registry.specs.declared.edition.Edition.TheVariants.{First}
 use Rattle.gm_registry.proofs.InTransaction.{HasCommitted}
@@ -214,12 +212,3 @@ not_committed_first old begun mid new e same kept inside (inr late) is_open =
     absurd (true≢false (sym inside ∙ late.1))
 
 -- ---- room for more rows
-
--- as many rows more can be numbered as before
-pub room_over : (old new : Trees) → IsCarriedOver old new → (n : ℕ) → HasRoom n old
-    → HasRoom n new
-room_over old new over n has = record {
-  mirrors = subst (TakesMore n) (sym over.mirrors) has.mirrors;
-  components = subst (TakesMore n) (sym over.components) has.components;
-  commands = subst (TakesMore n) (sym over.commands) has.commands;
-}

@@ -51,12 +51,6 @@ module _ (text : List ℕ) (params : Row) (command : Command) (means : Means tex
       (statement_of text (understood registry_schema text)) None command (Err stop)) was.schema_is
       does)) was.is_open (h was.inside)) is
 
--- what fits if more is known
-pub fails_as : {X : Type 0} (x : Result X Error) (P Q : Type 0) → (P → Q) → OnOther x P
-    → OnOther x Q
-fails_as (Ok a) P Q f h = tt
-fails_as (Err e) P Q f h = λ is. f (h is)
-
 -- an error that is passed on
 pub passed_on : {X : Type 0} (x : Result X Error) (e : Error) (P : Type 0) → IsErrAnd x (λ f. f ≡ e)
     → (fault_of e ≡ Store → P) → OnOther x P

@@ -5,16 +5,13 @@ use Rattle.sqlite.specs.Effect.{Database}
 use Rattle.sqlite.specs.State.{State, HasCleanDisk, Survives}
 use Rattle.sqlite.proofs.StateLemmas.{survives_weaker}
 use Rattle.sqlite_rows.specs.Reads.{LeavesAlone}
-use Rattle.sqlite_rows.proofs.Reading.{known_still, read_then_over, failed_then_over, read_at_most, failed_leaves_over, carried_over}
+use Rattle.sqlite_rows.proofs.Reading.{read_then_over, failed_then_over, read_at_most, failed_leaves_over, carried_over}
 use Rattle.sqlite_rows.proofs.Statements.{settled_schema, settled_rows, rolled, kept_itself}
 use Rattle.sqlite_rows.proofs.Refusing.{unchanged_has}
 use Rattle.gm_state.specs.Rows.{Tables}
 use Rattle.gm_rows.specs.Schema.{registry_schema}
 use Rattle.gm_rows.specs.Tables.{SeesTables, HasCounted, SeesRegistry}
 use Rattle.gm_registry.specs.Reads.{IsOurSchema, IsOurs, HasRead, HasFailed}
-
-pub ours_still : (a b : State) → HasRead a b → HasCleanDisk b → IsOurs a → IsOurs b
-ours_still = known_still IsOurSchema
 
 pub read_then : (a b c : State) → HasRead a b → HasRead b c → HasRead a c
 read_then = read_then_over IsOurSchema

@@ -80,18 +80,6 @@ module _ (old mid new : State) (change : Tables → Tables) (count : ℕ)
         (less_room _ _ old.now.trees (omega arith) room));
   }
 
-  -- the same under another name of the change, and of the count
-  pub goes_by : (further next : Tables → Tables) (n total : ℕ) → InTurn mid new further n
-      → ((first : Database) (t : Tables) → IsInside first new (further (change t))
-      → IsInside first new (next t)) → count + n ≤ total → InTurn old new next total
-  goes_by further next n total call as_next sum = record {
-    made = goes_as registry_schema HasRows old mid new change further next so.made
-        call.made.survives call.made.kept call.made.put as_next;
-    numbers = λ clean first t was more room.
-        (then_calls further n call).numbers clean first t was more
-        (less_room _ _ old.now.trees (omega (arith, sum)) room);
-  }
-
   -- a failure of the next call, which asks for what the calls before it left
   pub fails_after : Survives mid new (λ _. ⊥) → HasCleanDisk new
       → (Fits Now : Trees → Tables → Type 0)

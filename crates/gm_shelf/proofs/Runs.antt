@@ -1,5 +1,5 @@
 -- A run of sectors, written one after another.
-use Rattle.std.proofs.Common.{◌≡◌, ◌∙◌, ◌<◌, ◌+◌, ◌-◌, ◌&&◌, ◌||◌, ◌==◌, inl, inr, ⊎_elim, ℕ, List, false, refl, arith, length, nat_le, nat_lt, eqb-true, if◌then◌else◌}
+use Rattle.std.proofs.Common.{◌≡◌, ◌∙◌, ◌<◌, ◌+◌, ◌-◌, ◌&&◌, ◌||◌, ◌==◌, inl, inr, ⊎_elim, ℕ, List, refl, arith, length, nat_le, nat_lt, eqb-true, if◌then◌else◌}
 use Rattle.std.proofs.lemmas.Bool.{cases_Bool}
 use Rattle.std.proofs.lemmas.Bool.Decides.{nat_tests}
 use Rattle.gm_metadata.specs.declared.label.Label.{Label}
@@ -22,16 +22,6 @@ module _ (p : Label) (first : ℕ) (run : List (List ℕ)) where
       (so_far q j))
       (λ (h : IsPut p (first + k) (sector_of run k) q j (y q j)). inr (k, few, h))
       (torn q j)
-
-  -- before the first write
-  pub run_start : (v : View) → IsRunWrite p first run v v
-  run_start v = record {
-    seen = λ q j. inl refl;
-    crash = λ x left. (x, left, λ q j. inl refl);
-    later = omega arith;
-    since = λ t x le left. inl left;
-    keeps = λ t x le left. left;
-  }
 
   -- one write more
   pub run_then : (old mid new : View) (k : ℕ) → k < length run → IsRunWrite p first run old mid
@@ -60,13 +50,6 @@ module _ (p : Label) (first : ℕ) (run : List (List ℕ)) where
   put_upto n x q j =
       if same_label q p && (nat_le first j && nat_lt j (first + n)) then sector_of run
       (j - first) else x q j
-
-  pub put_none : (x : Image) → Same x (put_upto 0 x)
-  put_none x q j =
-      elim (cases_Bool (same_label q p)) [ inl y ↦ rw (y, empty j) refl | inr n ↦ rw n refl ]
-    where
-      empty : (j : ℕ) → (nat_le first j && nat_lt j (first + 0)) ≡ false
-      empty j = grind (arith, nat_tests)
 
   more : (n j : ℕ) → (nat_le first j && nat_lt j (first + (n + 1)))
       ≡ ((j == (first + n)) || (nat_le first j && nat_lt j (first + n)))

@@ -48,18 +48,6 @@ pub record IsSoFar (history image : List Event) (names : List Label) (pick : Lis
   pub past : (i j : ℕ) → i < k → IsOutside (size_after history (name_at names i)) j
       → seen_after image (name_at names i) j ≡ []
 
-pub so_far_start : (history : List Event) (names : List Label) (pick : List ℕ)
-    → IsSoFar history [] names pick 0 0
-so_far_start history names pick = record {
-  fresh = tt;
-  taken_is = omega arith;
-  sizes = λ i lt. absurd (omega (arith, lt));
-  not_yet = λ q new. refl;
-  nothing_yet = λ q j new. refl;
-  sectors = λ i j lt. absurd (omega (arith, lt));
-  past = λ i j lt. absurd (omega (arith, lt));
-}
-
 -- a name is among the first k + 1 if it is the k-th, or among the first k
 below_or_last : (i k : ℕ) → i < k + 1 → (i < k) ⊎ (i ≡ k)
 below_or_last i k lt =

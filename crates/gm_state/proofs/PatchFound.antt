@@ -12,7 +12,7 @@ use Rattle.gm_lists.proofs.Order.{same_is, same_from}
 use Rattle.gm_state.specs.Records.{Records, IsState}
 use Rattle.gm_state.specs.Lookups.{component_of, mirror_of}
 use Rattle.gm_state.specs.Intents.{is_dirty_of, is_meta_of, LeaveNoDirt}
-use Rattle.gm_state.specs.Readable.{is_copy, is_patch, IsPatchWithin, IsReadable, StandsBetween, AreOrderedFrom, IsOfRange, AreOfOnePatch, AreReadable, AreSectors}
+use Rattle.gm_state.specs.Readable.{is_copy, is_patch, IsPatchWithin, StandsBetween, AreOrderedFrom, IsOfRange, AreOfOnePatch, AreSectors}
 use Rattle.gm_state.proofs.CopyFound.{member_from, component_named, component_found, home_found}
 use Rattle.gm_state.proofs.FoundRecords.{named}
 
@@ -160,21 +160,6 @@ meta_of_dirt (t ∷ ts) clean p (inl s) =
     meta_is (Dirty q) e = cc
     meta_is (Patch q a b) e = cc
 meta_of_dirt (t ∷ ts) clean p (inr h) = inr (meta_of_dirt ts clean.1 p h)
-
--- nothing is patched if no bytes are to be laid
-pub none_patched : (s : Records) (ts : List Intent) → AreReadable s [] ts
-    → list_any is_patch ts ≡ false
-none_patched s ts readable = any_none is_patch ts (λ t h. off t h (readable.each t h))
-  where
-    off : (t : Intent) → Has ts t → IsReadable s t → is_patch t ≡ false
-    off (Meta p) h r = refl
-    off (Clear p) h r = refl
-    off (Copy f q a b) h r = refl
-    off (Dirty p) h r = refl
-    off (Patch p a b) h r =
-        let range = readable.one_patch.ranges (Patch p a b) h in
-        let low : a < b = r.ordered in
-        absurd (let z : ⊥ = omega (arith, range.0, range.1, low) in z)
 
 -- what each place of the bytes holds is a sector
 pub are_sectors : (bytes : List (List ℕ))

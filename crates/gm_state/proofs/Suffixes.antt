@@ -1,5 +1,5 @@
 -- What holds of a list, told from what is left of it.
-use Rattle.std.proofs.Common.{◌≡◌, ◌∙◌, inl, inr, ⊎_elim, ℕ, zero, suc, ◌+◌, ◌<◌, ◌≤◌, List, [], ◌∷◌, drop, length, get_or, refl, sym, ap, subst, add-one, drop-cons, arith}
+use Rattle.std.proofs.Common.{◌≡◌, ◌∙◌, inr, ⊎_elim, ℕ, zero, suc, ◌+◌, ◌<◌, ◌≤◌, List, [], ◌∷◌, drop, length, get_or, refl, sym, ap, add-one, drop-cons, arith}
 use Rattle.gm_lists.specs.Ordered.{Has}
 
 -- the first of what is left
@@ -11,17 +11,6 @@ next_is xs i x low is = rw add-one (drop-cons xs i x low ∙ ap (λ y. y ∷ dro
 
 abbrev pub Each : {A : Type 0} → (A → Type 0) → List A → Type 0
 Each {A} P xs = (x : A) → Has xs x → P x
-
-pub each_from : {A : Type 0} (P : A → Type 0) (x : A) (xs : List A) → P x → Each P xs
-    → Each P (x ∷ xs)
-each_from P x xs p rest =
-    λ y has. ⊎_elim (λ (s : x ≡ y). subst P s p) (λ (h : Has xs y). rest y h) has
-
-pub each_first : {A : Type 0} (P : A → Type 0) (x : A) (xs : List A) → Each P (x ∷ xs) → P x
-each_first P x xs all = all x (inl refl)
-
-pub each_rest : {A : Type 0} (P : A → Type 0) (x : A) (xs : List A) → Each P (x ∷ xs) → Each P xs
-each_rest P x xs all = λ y has. all y (inr has)
 
 -- ---- one of a list
 

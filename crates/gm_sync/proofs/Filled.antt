@@ -1,5 +1,5 @@
 -- Calls that fill, one after the other.
-use Rattle.std.proofs.Common.{◌≡◌, ◌∙◌, ◌⊎◌, inl, inr, ℕ, refl, subst, arith, List, [], ◌∷◌, ◌++◌, Result, Ok}
+use Rattle.std.proofs.Common.{◌≡◌, ◌∙◌, ◌⊎◌, inl, inr, refl, subst, arith, List, [], ◌∷◌, ◌++◌, Result, Ok}
 use Rattle.sqlite_trees.specs.declared.store.Store.{Ghosts as StoreGhosts}
 use Rattle.gm_metadata.specs.Images.{Image}
 use Rattle.gm_lists.specs.Ordered.{Has}
@@ -15,7 +15,7 @@ use Rattle.gm_rows.specs.ReadableTables.{AreRecordsOf}
 use Rattle.gm_registry.specs.Registry.{DiskKept}
 use Rattle.gm_bench.specs.Benches.{progress_of, registry_of, shelf_of}
 use Rattle.gm_bench.specs.Calls.{Keep, LooksOn}
-use Rattle.gm_bench.specs.Owed.{LookDoes, RunAnswers}
+use Rattle.gm_bench.specs.Owed.{LookDoes}
 use Rattle.gm_bench.specs.Recovering.{IsAt}
 use Rattle.gm_bench.specs.declared.answer.Answer.{Answer}
 use Rattle.gm_bench.specs.declared.fault.BenchFault.{BenchFault}
@@ -183,28 +183,6 @@ module _ {S H : Type 0} (g : StoreGhosts S) (h : ShelfGhosts H) (Fit : Command �
     fill = filled.fill;
     at = looked_at g h (registry_of b) (registry_of c) (shelf_of b) (shelf_of c) away []
         [] filled.world filled.world does filled.at;
-  }
-
-  -- a command that fits and is run
-  pub fills_run : (a b : Bench S H) (key : List ℕ) (command : Command) (answer : Answer)
-      → Fit command → progress_of b ≡ progress_of a
-      → Keep g h (registry_of a) (registry_of b) (shelf_of a) (shelf_of b)
-      → (h.honest (shelf_of a) → DiskKept g (registry_of b)
-      → RunAnswers g h (registry_of a) (registry_of b) (shelf_of a) (shelf_of b) key command answer)
-      → Fills g h Fit a b
-  fills_run a b key command answer is stays keep answers = record {
-    stays = stays;
-    keep = keep;
-    does = λ honest kept away u at.
-        let ran = answers honest kept away u at in
-        record {
-          calls = record { key = key; command = command } ∷ [];
-          answers = _ ∷ [];
-          world = ran.world;
-          run = (ran.world, ran.calls, refl);
-          fill = one_fills Fit (record { key = key; command = command }) is;
-          at = ran.at;
-        };
   }
 
   -- what fits one way fits another way that asks for less

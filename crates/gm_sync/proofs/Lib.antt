@@ -5,5 +5,4 @@ pub mod Filled
 pub mod FilledOn
 pub mod Next
 pub mod Passing
-pub mod Phases
 pub mod Still

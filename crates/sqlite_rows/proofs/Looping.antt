@@ -68,12 +68,3 @@ module _ {R : Type 0} (schema : Schema) (Rows : Trees → R → Type 0) where
     put = λ clean first r is. let early : HasCleanDisk mid = omega (arith, survives.clean, clean) in
         as_next first r (put clean first (change r) (so.put early first r is));
   }
-
-  pub goes_on : (old mid new : State) (change step next : R → R) → SoFar old mid change
-      → Survives mid new (λ _. ⊥) → (HasCleanDisk new → KeepsCommit mid new)
-      → (HasCleanDisk new → (first : Database) (r : R) → IsInside schema Rows first mid r
-      → IsInside schema Rows first new (step r)) → ((r : R) → next r ≡ step (change r))
-      → SoFar old new next
-  goes_on old mid new change step next so survives kept put same =
-      goes_as old mid new change step next so survives kept put
-      (λ first r. subst (IsInside schema Rows first new) (sym (same r)))

@@ -1,14 +1,12 @@
 -- The rowid of the next row.
-use Rattle.std.proofs.Common.{◌≡◌, inl, inr, ℕ, ℤ, pos, ◌+◌, ◌+ℤ◌, ◌^◌, ◌<◌, ◌≤◌, Bool, true, List, [], ◌∷◌, filter, fold, refl, ap, ◌∙◌, arith, nat_lt}
+use Rattle.std.proofs.Common.{◌≡◌, ℕ, ℤ, pos, ◌+◌, ◌+ℤ◌, ◌^◌, ◌<◌, ◌≤◌, Bool, true, List, [], ◌∷◌, filter, fold, refl, ap, ◌∙◌, arith, nat_lt}
 use Rattle.std.proofs.lemmas.Bool.Decides.{nat_tests}
 use Rattle.sqlite.specs.Order.{Row}
-use Rattle.sqlite.specs.declared.types.Value.TheVariants.{Int}
 use Rattle.sqlite_sql.specs.Ops.{fits_i64}
-use Rattle.sqlite_trees.specs.Tree.{rowid, put_row}
+use Rattle.sqlite_trees.specs.Tree.{rowid}
 use Rattle.sqlite_rules.specs.Edit.{id_in, next_rowid}
 use Rattle.sqlite_rules.specs.Lists.{Has}
 use Rattle.sqlite_rules.proofs.ListLemmas.{all_has, all_from, has_filtered}
-use Rattle.sqlite_rules.proofs.TableLemmas.{put_has}
 use Rattle.sqlite_rows.specs.Numbers.{AreUpTo, TakesMore}
 
 next_from : (last at : ℕ) (rows : List Row) → at ≤ last + 1 → AreUpTo last rows
@@ -36,21 +34,6 @@ next_fits rows more takes =
     let low : next.0 < 2 ^ 63 = omega (arith, next.2, room) in
     let fits : nat_lt next.0 (2 ^ 63) ≡ true = grind (arith, nat_tests) in
     ap fits_i64 next.1 ∙ fits
-
--- after a row that was numbered
-pub put_takes : (new : Row) (rows : List Row) (more : ℕ) → rowid new ≡ Int (next_rowid rows)
-    → TakesMore (more + 1) rows → TakesMore more (put_row new rows)
-put_takes new rows more is takes =
-    let next = next_is takes.last rows takes.up_to in
-    let room = takes.room in
-    record {
-      last = takes.last + 1;
-      up_to = all_from _ (put_row new rows) (λ r has. elim (put_has new rows r has) [
-        | inl same ↦ (next.0, ap rowid same ∙ is ∙ ap Int next.1, next.2)
-        | inr was ↦ let it = all_has _ rows r takes.up_to was in (it.0, it.1, omega (arith, it.2))
-      ]);
-      room = omega arith;
-    }
 
 -- after some of the rows
 pub fewer_take : (p : Row → Bool) (rows : List Row) (more : ℕ) → TakesMore more rows

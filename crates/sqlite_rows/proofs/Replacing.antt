@@ -83,10 +83,6 @@ pub record Replaces (schema : Schema) (table : Table) (key : List ℕ) (db after
   pub tables : AllByRecursion (λ t. t.tree ≢ table.tree
       → after.trees t.tree ≡ db.trees t.tree) schema.tables
 
-alone_true : (b : Bool) → b && true ≡ true → IsTrue b
-alone_true true e = refl
-alone_true false e = cc
-
 fresh_alone : (b : Bool) → not b && true ≡ true → b ≡ false
 fresh_alone true e = cc
 fresh_alone false e = refl

@@ -1,43 +1,21 @@
 -- From what a statement makes of the tables to what a call of it leaves.
-use Rattle.std.proofs.Common.{◌≡◌, ◌≢◌, inl, inr, ℕ, true, false, List, [], None, Result, Ok, Err, OnOk, OnErr, IfErr, IsTrue, refl, sym, ap, subst, subst₂, ◌∙◌, append-nil, arith}
+use Rattle.std.proofs.Common.{◌≡◌, inl, inr, ℕ, true, false, List, [], None, Result, Ok, Err, OnOk, OnErr, IfErr, IsTrue, refl, sym, ap, subst, ◌∙◌, arith}
 use Rattle.std.proofs.lemmas.Bool.{cases_Bool}
 use Rattle.sqlite.specs.Order.{Row}
 use Rattle.sqlite.specs.Schema.{Schema}
 use Rattle.sqlite.specs.Command.{Command}
-use Rattle.sqlite.specs.Command.TheVariants.{Commit, Release}
 use Rattle.sqlite.specs.Tree.{Trees}
 use Rattle.sqlite.specs.Does.{Tally, Does}
 use Rattle.sqlite.specs.Effect.{Database, IsDatabase}
 use Rattle.sqlite_catalog.specs.Listing.{IsSound}
 use Rattle.sqlite.specs.declared.error.Error.{Error}
 use Rattle.sqlite.specs.Listing.{understood}
-use Rattle.sqlite.specs.State.{State, mode_of, Runs, Writes, Executes, ExecutesInside, KeepsCommit, KeepsCounts, HasCleanDisk, Survives, Shows, IsRolledBack, CommitsBy, MayCommit, MayWrite}
+use Rattle.sqlite.specs.State.{State, mode_of, Runs, Writes, ExecutesInside, KeepsCommit, KeepsCounts, HasCleanDisk, Survives, Shows, IsRolledBack}
 use Rattle.sqlite.proofs.Callers.{IsPlain, command_of, statement_of, runs_as}
 use Rattle.sqlite_trees.specs.declared.store.Store as store
 use Rattle.sqlite.specs.Steps.{FailsToCommit}
 use Rattle.sqlite.specs.Held.{Held, state}
 use Rattle.sqlite_rows.specs.Calls.{Holds as HoldsBy, HasRecords as HasRecordsBy, IsInside as IsInsideBy}
-
--- what a call by itself may commit, if it is no COMMIT and no RELEASE
-module _ (sql : List ℕ) (params : Row) (s : State) (schema : Schema) (has : s.now.schema ≡ schema)
-    (command : Command) (is : command_of (understood schema sql) ≡ command)
-    (plain : IsPlain (understood schema sql)) where
-  pub commits_as : (db : Trees) → CommitsBy sql params s db
-      → MayCommit s None command (statement_of sql (understood schema sql)) params db
-  unfolding CommitsBy
-  commits_as db h =
-      let known = sym h.1.is ∙ ap (λ s. understood s sql) has in
-      let bare = subst IsPlain (sym known) plain in
-      subst₂ (λ k t. MayCommit s None k t params db) (ap command_of known ∙ is)
-      (ap (statement_of sql) known) (rw (bare.0, bare.1, append-nil params) at h.2)
-
-writes_only : (command : Command) → command ≢ Commit → ((name : List ℕ) → command ≢ Release name)
-    → (s : State) (text : List ℕ) (params : Row) (db : Trees)
-    → MayCommit s None command text params db → MayWrite s None command text params db
-writes_only command apart unnamed s text params db (inl (inl is, same)) = absurd (apart is)
-writes_only command apart unnamed s text params db (inl (inr named, same)) =
-    absurd (unnamed named.0 named.2)
-writes_only command apart unnamed s text params db (inr it) = it
 
 pub keeps_inside : (sql : List ℕ) (params : Row) (old new : State) (x : Result ℕ Error)
     → ExecutesInside 0 sql params old new x → KeepsCommit old new
@@ -165,45 +143,12 @@ module _ {R : Type 0} (of_schema : Schema) (Rows : Trees → R → Type 0) where
           tables = holding new.now (change r) made.0 made.1 w.sound;
         }
 
-    pub alone_ok : (old new : State) (count : ℕ) (r : R) → HasRecords old r
-        → Executes sql params old new (Ok count) → HasRecords new (change r)
-    alone_ok old new count r was h =
-        let w = writes old new text count (runs_as sql params old new of_schema
-        (settled_schema old r was) command is plain count h) in
-        let made = makes old r new.now text w.tally (settled_schema old r was)
-        (settled_rows old r was).rows w.changed in
-        let committed : new.committed ≡ new.now = w.shown.committed_is ∙ rw (was.autocommit) in
-        record {
-          is_open = w.shown.is_open;
-          autocommit = w.shown.mode ∙ was.autocommit;
-          schema_is = ap (λ (d : Database). d.schema) committed ∙ made.0;
-          settled = sym committed;
-          tables = subst (λ (d : Database). Holds d.trees (change r)) (sym committed)
-              (holding new.now (change r) made.0 made.1 w.sound);
-        }
-
-    pub alone_crash : command ≢ Commit → ((name : List ℕ) → command ≢ Release name)
-        → (old : State) (r : R) → HasRecords old r → (db : Trees) → CommitsBy sql params old db
-        → Holds db (change r)
-    alone_crash apart unnamed old r was db h =
-        let it = writes_only command apart unnamed old text params db
-        (commits_as sql params old of_schema (settled_schema old r was) command is plain db
-        h) in
-        let made = makes old r it.2 text it.1 (settled_schema old r was)
-        (settled_rows old r was).rows it.3 in
-        subst (λ t. Holds t (change r)) (sym it.5) (holding it.2 (change r) made.0 made.1 it.4)
-
     pub at_inside : (old new : State) (x : Result ℕ Error)
         → (IsTrue old.in_transaction → ExecutesInside 0 sql params old new x)
         → OnOk x ((first : Database) (r : R) → IsInside first old r → IsInside first new (change r))
     at_inside old new (Ok count) h =
         λ first r was. inside_ok first old new count r was (h (rw was.inside))
     at_inside old new (Err e) h = tt
-
-    pub at_alone : (old new : State) (x : Result ℕ Error) → Executes sql params old new x
-        → OnOk x ((r : R) → HasRecords old r → HasRecords new (change r))
-    at_alone old new (Ok count) h = λ r was. alone_ok old new count r was h
-    at_alone old new (Err e) h = tt
 
   pub begun : {S : Type 0} (g : store.Ghosts S) (old : Held S) (r : R) → HasRecords (state g old) r
       → IsInside (state g old).committed (state g (record old { in_transaction = true })) r
