@@ -1,13 +1,5 @@
 -- By how many sectors two providers differ.
-use Rattle.std.proofs.Common.{◌≡◌, ◌≢◌, ◌∙◌, ◌<◌, ◌≤◌, ◌+◌, ◌-◌, ℕ, zero, suc, List, length, if◌then◌else◌, inl, inr, refl, sym, ap, subst, arith, add-suc, add-zero, add_assoc}
-use Rattle.std.specs.Str.{bytes_eq}
-use Rattle.std.proofs.lemmas.Bool.{cases_lt}
-use Rattle.gm_lists.proofs.Order.{differ, same_from}
-use Rattle.gm_metadata.specs.declared.label.Label.{Label}
-use Rattle.gm_metadata.specs.Images.{Image, Same}
-use Rattle.gm_shelf.specs.Disk.{IsRun, sector_of}
-use Rattle.gm_apply.specs.DifferingData.{IsDifference, IsWithin, count_differing, sectors_from}
-use Rattle.gm_apply.specs.declared.differing_data.Difference.{Difference}
+use Rattle.gm_apply.proofs.Common.{◌≡◌, ◌≢◌, ◌∙◌, ◌<◌, ◌≤◌, ◌+◌, ◌-◌, ℕ, zero, suc, List, length, if◌then◌else◌, inl, inr, refl, sym, ap, subst, arith, add-suc, add-zero, add_assoc, bytes_eq, cases_lt, differ, same_from, Label, Image, Same, IsRun, sector_of, IsDifference, IsWithin, count_differing, sectors_from, Difference}
 
 module _ (a b : ℕ → List ℕ) where
   -- of equal ones none differs

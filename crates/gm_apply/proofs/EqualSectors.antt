@@ -1,14 +1,7 @@
 -- First sectors of two providers that are equal.
-use Rattle.std.proofs.Common.{◌≡◌, ◌≢◌, ◌∙◌, ◌<◌, ◌≤◌, ◌+◌, ◌-◌, ℕ, true, nat_le, inl, inr, refl, sym, ap, subst, arith, leb-true}
+use Rattle.gm_apply.proofs.Common.{◌≡◌, ◌≢◌, ◌∙◌, ◌<◌, ◌≤◌, ◌+◌, ◌-◌, ℕ, true, nat_le, inl, inr, refl, sym, ap, subst, arith, leb-true, bytes_eq, cases_lt, Decides-below_and, same_from_decides, leb_tells, bytes_eq-Decides, Label, Image, Same, agree, CountsEqual, IsEqualPart}
 use Rattle.std.specs.Bool.{Decides}
-use Rattle.std.specs.Str.{bytes_eq}
 use Rattle.std.proofs.Math.Bool.{and_comm}
-use Rattle.std.proofs.lemmas.Bool.{cases_lt}
-use Rattle.std.proofs.lemmas.Bool.Decides.{Decides-below_and, same_from_decides, leb_tells}
-use Rattle.std.proofs.lemmas.Slice.Eq.{bytes_eq-Decides}
-use Rattle.gm_metadata.specs.declared.label.Label.{Label}
-use Rattle.gm_metadata.specs.Images.{Image, Same, agree}
-use Rattle.gm_apply.specs.EqualData.{CountsEqual, IsEqualPart}
 
 -- each of the first n sectors of two providers is equal
 abbrev pub AreEqualBelow : Image → Label → Label → ℕ → Type 0

@@ -1,14 +1,5 @@
 -- Bytes that are laid over sectors of a provider.
-use Rattle.std.proofs.Common.{◌≡◌, ◌∙◌, inl, inr, ℕ, Some, ◌≤◌, ◌<◌, ◌+◌, ◌-◌, ◌&&◌, length, take, List, true, refl, sym, ap, arith, le-leb, lt-ltb, leb-true, ltb-true, nat_le, nat_lt}
-use Rattle.std.proofs.lemmas.Bool.{cases_Bool, and_parts, ltb-false}
-use Rattle.std.proofs.lemmas.List.{get_or-take, length-take-le}
-use Rattle.std.specs.Prelude.{slice_get}
-use Rattle.std.proofs.lemmas.Option.{get_or_from_slice_get, slice_get_within}
-use Rattle.gm_metadata.specs.Images.{Image, Same, same_label, label_refl}
-use Rattle.gm_shelf.specs.Disk.{View, sector_of, put_run, IsRunWrite}
-use Rattle.gm_state.specs.declared.intents.Intent.TheVariants.{Patch}
-use Rattle.gm_state.specs.Intents.{patches}
-use Rattle.gm_apply.specs.Redo.{with_places, IsUnderWay}
+use Rattle.gm_apply.proofs.Common.{◌≡◌, ◌∙◌, inl, inr, ℕ, Some, ◌≤◌, ◌<◌, ◌+◌, ◌-◌, ◌&&◌, length, take, List, true, refl, sym, ap, arith, le-leb, lt-ltb, leb-true, ltb-true, nat_le, nat_lt, cases_Bool, and_parts, ltb-false, get_or-take, length-take-le, slice_get, get_or_from_slice_get, slice_get_within, Image, Same, same_label, label_refl, View, sector_of, put_run, IsRunWrite, Patch, patches, with_places, IsUnderWay}
 use Rattle.gm_apply.proofs.UnderWay.{going_run}
 use Rattle.gm_apply.proofs.Sectors.{swapped}
 

@@ -1,23 +1,7 @@
 -- From what is left of an image to where it leads.
-use Rattle.std.proofs.Common.{◌≡◌, ◌∙◌, ◌⊎◌, inl, inr, ⊎_elim, ℕ, ◌+◌, ◌-◌, List, [], ◌∷◌, true, false, refl, sym, ap, subst, arith, Some}
-use Rattle.std.proofs.lemmas.Bool.{cases_Bool, and_parts, or_parts}
-use Rattle.std.specs.List.{list_any}
-use Rattle.gm_lists.proofs.Finding.{not_both, some_any}
-use Rattle.gm_metadata.specs.Images.{Image, Sizes, Same, SameThere, same_label}
-use Rattle.gm_metadata.specs.Sector.{Bears, IsMetadata}
-use Rattle.gm_metadata.specs.declared.metadata.Metadata.{Metadata}
-use Rattle.gm_state.specs.declared.intents.Intent.{Intent}
-use Rattle.gm_state.specs.declared.intents.Intent.TheVariants.{Meta, Clear, Copy, Dirty, Patch}
-use Rattle.gm_state.specs.declared.records.Mirror.{Mirror}
-use Rattle.gm_state.specs.declared.records.Component.{Component}
-use Rattle.gm_state.specs.Records.{Records, IsState}
-use Rattle.gm_state.specs.Intents.{IsOf, touches, is_last, is_dirty_of, names, is_place, any_copies, Agrees, IsRedo, IsDirt, InOrder}
-use Rattle.gm_state.specs.World.{World, Claims, NewClaims, Below, claimed, data_at}
+use Rattle.gm_apply.proofs.Common.{◌≡◌, ◌∙◌, ◌⊎◌, inl, inr, ⊎_elim, ℕ, ◌+◌, ◌-◌, List, [], ◌∷◌, true, false, refl, sym, ap, subst, arith, Some, cases_Bool, and_parts, or_parts, list_any, not_both, some_any, Image, Sizes, Same, SameThere, same_label, Bears, IsMetadata, Metadata, Intent, Meta, Clear, Copy, Dirty, Patch, Mirror, Component, Records, IsState, IsOf, touches, is_last, is_dirty_of, names, is_place, any_copies, Agrees, IsRedo, IsDirt, InOrder, World, Claims, NewClaims, Below, claimed, data_at, last_at, place_from, placed_by, fills_from, named_fills, dirty_names, with_places, is_marked, SomePlacesWritten, IsNew, Before, Marked, Behind, IsPartlyDone, Continues}
 use Rattle.gm_state.proofs.EncodedSectors.{dirt_bears_dirty}
-use Rattle.gm_state.proofs.Places.{last_at, place_from, placed_by, fills_from, named_fills, dirty_names}
 use Rattle.gm_state.proofs.SoundClaims.{some_there, same_data}
-use Rattle.gm_apply.specs.Redo.{with_places, is_marked, SomePlacesWritten, IsNew, Before, Marked, Behind, IsPartlyDone}
-use Rattle.gm_apply.specs.Continues.{Continues}
 use Rattle.gm_apply.proofs.UnderWay.{laid_in, laid_out}
 
 -- what was written is a place

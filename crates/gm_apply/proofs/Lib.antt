@@ -1,3 +1,4 @@
+pub mod Common
 pub mod DifferingSectors
 pub mod EqualSectors
 pub mod LaidBytes

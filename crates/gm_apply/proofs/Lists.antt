@@ -1,21 +1,5 @@
 -- What an intent of the list says and lays, after those that are done before it.
-use Rattle.std.proofs.Common.{◌≡◌, ◌∙◌, inl, inr, ℕ, ◌≤◌, ◌<◌, ◌+◌, ◌&&◌, List, [], ◌∷◌, ◌++◌, Bool, true, false, refl, sym, ap, subst, arith, nat_le, nat_lt, length, take, drop, get_or, take-append-drop}
-use Rattle.std.specs.Prelude.{IsSome}
-use Rattle.std.proofs.lemmas.Bool.{cases_Bool}
-use Rattle.std.proofs.lemmas.Bool.Decides.{nat_tests}
-use Rattle.std.proofs.lemmas.List.{take_more, drop_more}
-use Rattle.gm_metadata.specs.Images.{Image, Sizes, Same, label_tells, zeros}
-use Rattle.gm_metadata.specs.Reading.{encoded}
-use Rattle.gm_shelf.specs.Disk.{View, From}
-use Rattle.gm_state.specs.declared.intents.Intent.{Intent}
-use Rattle.gm_state.specs.declared.intents.Intent.TheVariants.{Meta, Clear, Copy, Dirty, Patch}
-use Rattle.gm_lists.specs.Ordered.{Has}
-use Rattle.gm_lists.proofs.Finding.{not_both, Has-append_right}
-use Rattle.gm_state.specs.Records.{Records}
-use Rattle.gm_state.specs.Lookups.{dirty_metadata}
-use Rattle.gm_state.specs.Intents.{is_last, copies, names, is_place, Says, Lends, IsRedo, IsMeta, IsDirt, LeaveNoDirt}
-use Rattle.gm_state.proofs.Places.{place_more, last_named}
-use Rattle.gm_apply.specs.Redo.{with_places, IsPartlyDone, CrashLeaves, PlacesAreNew, Moments, Lays, IsLaid}
+use Rattle.gm_apply.proofs.Common.{◌≡◌, ◌∙◌, inl, inr, ℕ, ◌≤◌, ◌<◌, ◌+◌, ◌&&◌, List, [], ◌∷◌, ◌++◌, Bool, true, false, refl, sym, ap, subst, arith, nat_le, nat_lt, length, take, drop, get_or, take-append-drop, IsSome, cases_Bool, nat_tests, take_more, drop_more, Image, Sizes, Same, label_tells, zeros, encoded, View, From, Intent, Meta, Clear, Copy, Dirty, Patch, Has, not_both, Has-append_right, Records, dirty_metadata, is_last, copies, names, is_place, Says, Lends, IsRedo, IsMeta, IsDirt, LeaveNoDirt, place_more, last_named, with_places, IsPartlyDone, CrashLeaves, PlacesAreNew, Moments, Lays, IsLaid}
 use Rattle.gm_apply.proofs.UnderWay.{laid_in, laid_out}
 use Rattle.gm_apply.proofs.Reached.{Which, Old, Dirt, New, latest, IsValue, IsReached, latest_off, latest_new, place_not_old, no_dirt}
 use Rattle.gm_apply.proofs.Steps.{Reaches, IsAim, step_done, step_moments}

@@ -1,23 +1,8 @@
 -- What a call owes that carries out one intent, by the calls that it makes.
-use Rattle.std.proofs.Common.{◌≡◌, ◌∙◌, ℕ, List, [], true, Some, Ok, Err, OnOk, IsErrAnd, refl, sym, subst, subst₂}
-use Rattle.std.specs.Prelude.{Option}
-use Rattle.gm_metadata.specs.Images.{Image, Sizes}
-use Rattle.gm_metadata.specs.Reading.{encoded}
-use Rattle.gm_metadata.specs.declared.label.Label.{Label}
-use Rattle.gm_metadata.specs.declared.metadata.Metadata.{Metadata}
+use Rattle.gm_apply.proofs.Common.{◌≡◌, ◌∙◌, ℕ, List, [], true, Some, Ok, Err, OnOk, IsErrAnd, refl, sym, subst, subst₂, Option, Image, Sizes, encoded, Label, Metadata, Answer, IsDone, WritesLast, Intent, Meta, Copy, Dirty, Patch, names, dirty_metadata, dirty_metadata_of, metadata, metadata_of, Records, IsState, CarriesOut, FillsSynced, HasBytes, WritesFound, WritesPlaces, brought, IsAbsent, IsFound, IsLaid, KeepsOthers, LacksProvider, LacksSector, Moments, Places, last_of, writes}
 use Rattle.gm_shelf.specs.declared.fault.ShelfFault.{ShelfFault}
 use Rattle.gm_shelf.specs.declared.fault.ShelfFault.TheVariants.{Absent, Range}
 use Rattle.gm_shelf.specs.declared.shelf.Shelf.{Ghosts}
-use Rattle.gm_shelf.specs.Disk.{Answer}
-use Rattle.gm_shelf.specs.LastSector.{IsDone, WritesLast}
-use Rattle.gm_state.specs.declared.intents.Intent.{Intent}
-use Rattle.gm_state.specs.declared.intents.Intent.TheVariants.{Meta, Copy, Dirty, Patch}
-use Rattle.gm_state.specs.Intents.{names}
-use Rattle.gm_state.specs.Lookups.{dirty_metadata, dirty_metadata_of, metadata, metadata_of}
-use Rattle.gm_state.specs.Records.{Records, IsState}
-use Rattle.gm_apply.specs.Calls.{CarriesOut, FillsSynced, HasBytes, WritesFound, WritesPlaces, brought}
-use Rattle.gm_apply.specs.Failing.{IsAbsent}
-use Rattle.gm_apply.specs.Redo.{IsFound, IsLaid, KeepsOthers, LacksProvider, LacksSector, Moments, Places, last_of, writes}
 use Rattle.gm_apply.proofs.LaidBytes.{bytes_enough, bytes_same}
 use Rattle.gm_apply.proofs.Others.{keeps_start, others_step}
 use Rattle.gm_apply.proofs.UnderWay.{at_start, moments_same, redone_same}

@@ -1,14 +1,5 @@
 -- What stays of the sectors that nobody writes.
-use Rattle.std.proofs.Common.{◌≡◌, ◌∙◌, ◌⊎◌, inl, inr, ⊎_elim, ℕ, ◌+◌, List, true, false, refl, subst, Some, None}
-use Rattle.std.proofs.lemmas.Bool.{cases_Bool}
-use Rattle.gm_metadata.specs.Images.{Image, Sizes}
-use Rattle.gm_shelf.specs.Disk.{View, IsPut, Torn, From}
-use Rattle.gm_shelf.specs.LastSector.{OldOrNew}
-use Rattle.gm_state.specs.declared.intents.Intent.{Intent}
-use Rattle.gm_state.specs.Records.{Records}
-use Rattle.gm_lists.specs.Ordered.{Has}
-use Rattle.gm_lists.proofs.Finding.{any_from, not_both}
-use Rattle.gm_apply.specs.Redo.{Places, last_of, AgreeBut, KeepsOthers, writes, is_written}
+use Rattle.gm_apply.proofs.Common.{◌≡◌, ◌∙◌, ◌⊎◌, inl, inr, ⊎_elim, ℕ, ◌+◌, List, true, false, refl, subst, Some, None, cases_Bool, Image, Sizes, View, IsPut, Torn, From, OldOrNew, Intent, Records, Has, any_from, not_both, Places, last_of, AgreeBut, KeepsOthers, writes, is_written}
 use Rattle.gm_apply.proofs.UnderWay.{at_start, leaves_trans}
 use Rattle.gm_apply.proofs.Written.{by_size, here}
 

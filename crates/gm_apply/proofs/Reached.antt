@@ -1,13 +1,5 @@
 -- What intents that are done leave of an image: each sector is as the last of them left it.
-use Rattle.std.proofs.Common.{◌≡◌, ◌⊎◌, inl, inr, ⊎_elim, ℕ, ◌||◌, Bool, true, false, refl, List, [], ◌∷◌, ◌++◌, if◌then◌else◌}
-use Rattle.std.specs.List.{list_any}
-use Rattle.std.proofs.lemmas.Bool.{cases_Bool, or_left, or_right, or_parts}
-use Rattle.gm_metadata.specs.Images.{Image, Sizes}
-use Rattle.gm_state.specs.declared.intents.Intent.{Intent}
-use Rattle.gm_state.specs.Records.{Records}
-use Rattle.gm_state.specs.Intents.{is_last, is_dirty, is_dirty_of, is_meta_of, claims, names, is_place, IsDirt, LeaveNoDirt}
-use Rattle.gm_lists.proofs.Finding.{not_both}
-use Rattle.gm_state.proofs.Places.{or_true, named_fills, meta_names, dirty_is_of, dirty_last}
+use Rattle.gm_apply.proofs.Common.{◌≡◌, ◌⊎◌, inl, inr, ⊎_elim, ℕ, ◌||◌, Bool, true, false, refl, List, [], ◌∷◌, ◌++◌, if◌then◌else◌, list_any, cases_Bool, or_left, or_right, or_parts, Image, Sizes, Intent, Records, is_last, is_dirty, is_dirty_of, is_meta_of, claims, names, is_place, IsDirt, LeaveNoDirt, not_both, or_true, named_fills, meta_names, dirty_is_of, dirty_last}
 
 -- what a sector holds on the way: what it held, dirt, or what it holds in the end
 pub data Which : Type 0 where

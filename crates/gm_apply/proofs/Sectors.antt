@@ -1,12 +1,5 @@
 -- A copy, one run after another.
-use Rattle.std.proofs.Common.{◌≡◌, inl, inr, ℕ, ◌≤◌, ◌<◌, ◌+◌, ◌-◌, length, List, Bool, true, false, ◌&&◌, ◌||◌, refl, sym, ◌∙◌, ap, subst, arith, le-leb, lt-ltb, le-ltb, leb-true, ltb-true, nat_le, nat_lt, if◌then◌else◌}
-use Rattle.std.proofs.lemmas.Bool.{cases_Bool, and_parts}
-use Rattle.std.proofs.lemmas.Bool.Decides.{nat_tests}
-use Rattle.gm_metadata.specs.Images.{Image, Same, same_label, label_tells, label_refl}
-use Rattle.gm_shelf.specs.Disk.{View, sector_of, IsRun, put_run, IsRunWrite}
-use Rattle.gm_state.specs.declared.intents.Intent.TheVariants.{Copy}
-use Rattle.gm_state.specs.Intents.{copies}
-use Rattle.gm_apply.specs.Redo.{with_places, IsUnderWay}
+use Rattle.gm_apply.proofs.Common.{◌≡◌, inl, inr, ℕ, ◌≤◌, ◌<◌, ◌+◌, ◌-◌, length, List, Bool, true, false, ◌&&◌, ◌||◌, refl, sym, ◌∙◌, ap, subst, arith, le-leb, lt-ltb, le-ltb, leb-true, ltb-true, nat_le, nat_lt, if◌then◌else◌, cases_Bool, and_parts, nat_tests, Image, Same, same_label, label_tells, label_refl, View, sector_of, IsRun, put_run, IsRunWrite, Copy, copies, with_places, IsUnderWay}
 use Rattle.gm_apply.proofs.UnderWay.{going_run, going_trans, laid_out}
 
 and_false : (b : Bool) → (b && false) ≡ false

@@ -1,16 +1,5 @@
 -- On the way through intents each provider is as before, dirty, or new.
-use Rattle.std.proofs.Common.{◌≡◌, ◌∙◌, ◌⊎◌, inl, inr, ⊎_elim, ℕ, ◌+◌, Bool, true, false, refl, sym, ap, subst, List, [], ◌∷◌, ◌++◌, Option, Some, None, zero, suc, arith, eqb-true, append-nil, append_assoc, if◌then◌else◌}
-use Rattle.std.specs.List.{list_any}
-use Rattle.std.proofs.lemmas.Bool.{cases_Bool}
-use Rattle.gm_metadata.specs.Images.{Image, Sizes}
-use Rattle.gm_state.specs.declared.intents.Intent.{Intent}
-use Rattle.gm_state.specs.Records.{Records}
-use Rattle.gm_state.specs.Intents.{is_last, is_dirty, is_dirty_of, claims, names, copies, patches, fills, any_copies, any_fills, is_place, IsDirt, InOrder, InOrderFrom}
-use Rattle.gm_lists.specs.Ordered.{Has}
-use Rattle.gm_lists.proofs.Finding.{not_both, any_from, some_any, Has-append_left, Has-append_right}
-use Rattle.gm_lists.proofs.Lists.{Has-push}
-use Rattle.gm_state.proofs.Places.{or_true, Has-append, last_only, last_at, place_from, placed_by, place_more, copies_from, filled_by, fills_from, fills_named, named_fills, last_fills, dirty_names, dirty_is_of, dirty_last}
-use Rattle.gm_apply.specs.Redo.{is_marked, SomePlacesWritten, Stage, Before, Marked, Behind, IsPartlyDone}
+use Rattle.gm_apply.proofs.Common.{◌≡◌, ◌∙◌, ◌⊎◌, inl, inr, ⊎_elim, ℕ, ◌+◌, Bool, true, false, refl, sym, ap, subst, List, [], ◌∷◌, ◌++◌, Option, Some, None, zero, suc, arith, eqb-true, append-nil, append_assoc, if◌then◌else◌, list_any, cases_Bool, Image, Sizes, Intent, Records, is_last, is_dirty, is_dirty_of, claims, names, copies, patches, fills, any_copies, any_fills, is_place, IsDirt, InOrder, InOrderFrom, Has, not_both, any_from, some_any, Has-append_left, Has-append_right, Has-push, or_true, Has-append, last_only, last_at, place_from, placed_by, place_more, copies_from, filled_by, fills_from, fills_named, named_fills, last_fills, dirty_names, dirty_is_of, dirty_last, is_marked, SomePlacesWritten, Stage, Before, Marked, Behind, IsPartlyDone}
 use Rattle.gm_apply.proofs.Reached.{Which, Old, Dirt, New, latest, IsValue, IsReached, IsStepping, latest_off, latest_new, place_not_old, any_claims, new_claimed, dirt_marked}
 
 -- ---- what the order tells

@@ -1,12 +1,5 @@
 -- One intent after another, in what a read gives and in what a crash may leave.
-use Rattle.std.proofs.Common.{◌≡◌, ◌∙◌, inl, inr, ⊎_elim, ℕ, sym, subst, List, [], ◌∷◌, ◌++◌, true, if◌then◌else◌}
-use Rattle.std.proofs.lemmas.Bool.{cases_Bool}
-use Rattle.gm_metadata.specs.Images.{Image, Sizes}
-use Rattle.gm_shelf.specs.Disk.{View, From}
-use Rattle.gm_state.specs.declared.intents.Intent.{Intent}
-use Rattle.gm_state.specs.Records.{Records}
-use Rattle.gm_state.specs.Intents.{is_dirty, names}
-use Rattle.gm_apply.specs.Redo.{IsPartlyDone, CrashLeaves, PlacesAreNew, Moments, SomePlacesNew, with_places}
+use Rattle.gm_apply.proofs.Common.{◌≡◌, ◌∙◌, inl, inr, ⊎_elim, ℕ, sym, subst, List, [], ◌∷◌, ◌++◌, true, if◌then◌else◌, cases_Bool, Image, Sizes, View, From, Intent, Records, is_dirty, names, IsPartlyDone, CrashLeaves, PlacesAreNew, Moments, SomePlacesNew, with_places}
 use Rattle.gm_apply.proofs.UnderWay.{leaves_trans, laid_in, laid_out}
 use Rattle.gm_apply.proofs.Reached.{Which, Old, Dirt, New, latest, IsValue, IsReached, IsStepping, latest_more}
 use Rattle.gm_apply.proofs.Stages.{partly}

@@ -1,12 +1,5 @@
 -- The stretches of a run, written one after another.
-use Rattle.std.proofs.Common.{◌≡◌, ◌∙◌, ◌≤◌, ◌<◌, ◌+◌, ◌-◌, ◌&&◌, ◌||◌, ◌==◌, inl, inr, ⊎_elim, ℕ, List, [], false, refl, sym, ap, subst, arith, length, take, drop, nat_le, nat_lt, eqb-true, leb-true, ltb-true}
-use Rattle.std.proofs.lemmas.List.{get_or-drop, get_or-take, length-drop, length-take-le}
-use Rattle.std.proofs.lemmas.Bool.{cases_Bool, and_parts}
-use Rattle.std.proofs.lemmas.Bool.Decides.{nat_tests}
-use Rattle.gm_metadata.specs.declared.label.Label.{Label}
-use Rattle.gm_metadata.specs.Images.{Image, Same, same_label, label_tells}
-use Rattle.gm_shelf.specs.Disk.{View, From, sector_of, IsRun, put_run, IsPutByRun, TornRun, IsRunWrite}
-use Rattle.gm_shelf.proofs.Runs.{put_upto}
+use Rattle.gm_apply.proofs.Common.{◌≡◌, ◌∙◌, ◌≤◌, ◌<◌, ◌+◌, ◌-◌, ◌&&◌, ◌||◌, ◌==◌, inl, inr, ⊎_elim, ℕ, List, [], false, refl, sym, ap, subst, arith, length, take, drop, nat_le, nat_lt, eqb-true, leb-true, ltb-true, get_or-drop, get_or-take, length-drop, length-take-le, cases_Bool, and_parts, nat_tests, Label, Image, Same, same_label, label_tells, View, From, sector_of, IsRun, put_run, IsPutByRun, TornRun, IsRunWrite, put_upto}
 
 -- no sectors are held anywhere
 pub none_held : (p : Label) (first : ℕ) (x : Image) → IsRun p first x []

@@ -1,9 +1,5 @@
 -- One call of a shelf after another, within one intent.
-use Rattle.std.proofs.Common.{◌≡◌, ◌<◌, ◌+◌, length, inl, inr, ⊎_elim, ℕ, List, true, false, refl, ◌∙◌, arith}
-use Rattle.std.proofs.lemmas.Bool.{cases_Bool}
-use Rattle.gm_metadata.specs.Images.{Image}
-use Rattle.gm_shelf.specs.Disk.{View, From, Elapses, IsQuiet, sector_of, IsPutByRun, TornRun, IsRunWrite}
-use Rattle.gm_apply.specs.Redo.{Places, with_places, SomePlacesNew, CrashLeaves, PlacesAreNew, Moments, IsUnderWay}
+use Rattle.gm_apply.proofs.Common.{◌≡◌, ◌<◌, ◌+◌, length, inl, inr, ⊎_elim, ℕ, List, true, false, refl, ◌∙◌, arith, cases_Bool, Image, View, From, Elapses, IsQuiet, sector_of, IsPutByRun, TornRun, IsRunWrite, Places, with_places, SomePlacesNew, CrashLeaves, PlacesAreNew, Moments, IsUnderWay}
 
 -- before the first call
 pub at_start : (v : View) (P : Image → Type 0) → CrashLeaves v v P

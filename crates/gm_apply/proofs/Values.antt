@@ -1,29 +1,7 @@
 -- What readable intents say of one sector, and an image that they lead to.
-use Rattle.std.proofs.Common.{◌≡◌, ◌∙◌, inl, inr, ⊎_elim, ℕ, ◌-◌, ◌<◌, ◌≤◌, ◌&&◌, List, [], ◌∷◌, Bool, true, false, refl, sym, ap, subst, arith, Option, None, Some, filter, length, get_or, nat_le, nat_lt, leb-true, ltb-true, if◌then◌else◌}
-use Rattle.std.specs.Prelude.{IsSomeAnd, slice_get}
-use Rattle.std.specs.List.{list_any}
-use Rattle.std.proofs.lemmas.Bool.{cases_Bool, and_parts, or_parts, or_left}
-use Rattle.std.proofs.lemmas.Option.{slice_get-get_or}
-use Rattle.gm_metadata.specs.Images.{Image, Sizes, same_label, zeros}
-use Rattle.gm_metadata.specs.Reading.{encoded}
-use Rattle.gm_metadata.specs.declared.metadata.Metadata.{Metadata}
-use Rattle.gm_state.specs.declared.intents.Intent.{Intent}
-use Rattle.gm_state.specs.declared.intents.Intent.TheVariants.{Meta, Clear, Copy, Dirty, Patch}
-use Rattle.gm_state.specs.declared.records.Mirror.{Mirror}
-use Rattle.gm_state.specs.declared.records.Component.{Component}
+use Rattle.gm_apply.proofs.Common.{◌≡◌, ◌∙◌, inl, inr, ⊎_elim, ℕ, ◌-◌, ◌<◌, ◌≤◌, ◌&&◌, List, [], ◌∷◌, Bool, true, false, refl, sym, ap, subst, arith, Option, None, Some, filter, length, get_or, nat_le, nat_lt, leb-true, ltb-true, if◌then◌else◌, IsSomeAnd, slice_get, list_any, cases_Bool, and_parts, or_parts, or_left, slice_get-get_or, Image, Sizes, same_label, zeros, encoded, Metadata, Intent, Meta, Clear, Copy, Dirty, Patch, Mirror, Component, Has, Records, IsState, metadata, metadata_of, component_of, IsOf, AreThere, is_last, copies, fills, names, is_place, IsMeta, Says, LeadSomewhere, is_copy, is_patch, AreReadable, found, not_both, option_cases, any_from, no_dirt_left, or_true, last_named, place_from, same_is, same_from, filter-Has, copies_kept, fills_data, lent, one_of, unpatched}
 use Rattle.gm_state.specs.declared.records.Disk.TheVariants.{InSync}
-use Rattle.gm_lists.specs.Ordered.{Has}
-use Rattle.gm_state.specs.Records.{Records, IsState}
-use Rattle.gm_state.specs.Lookups.{metadata, metadata_of, component_of}
-use Rattle.gm_state.specs.Intents.{IsOf, AreThere, is_last, copies, fills, names, is_place, IsMeta, Says, LeadSomewhere}
-use Rattle.gm_state.specs.Readable.{is_copy, is_patch, AreReadable}
-use Rattle.gm_lists.proofs.Finding.{found, not_both, option_cases, any_from}
-use Rattle.gm_state.proofs.PatchFound.{no_dirt_left}
-use Rattle.gm_state.proofs.Places.{or_true, last_named, place_from}
-use Rattle.gm_lists.proofs.Order.{same_is, same_from}
-use Rattle.gm_lists.proofs.Lists.{filter-Has}
 use Rattle.gm_apply.proofs.Lists.{copy_range}
-use Rattle.gm_state.proofs.ReadableIntents.{copies_kept, fills_data, lent, one_of, unpatched}
 use Rattle.gm_apply.proofs.Written.{metadata_found}
 
 -- the component on a provider, with its mirror

@@ -1,20 +1,6 @@
 -- From the write of a last sector to the step of an intent.
-use Rattle.std.proofs.Common.{◌≡◌, ◌⊎◌, inl, inr, ⊎_elim, ℕ, ◌+◌, List, true, false, ◌==◌, refl, sym, ◌∙◌, ap, subst, arith, Option, option_map, None, Some, zero, suc, eqb-true}
-use Rattle.std.proofs.lemmas.Bool.{cases_Bool}
-use Rattle.std.proofs.lemmas.Bool.Decides.{eqb_tells}
-use Rattle.gm_metadata.specs.Images.{Image, Sizes, Same, put, label_tells, label_refl}
-use Rattle.gm_shelf.specs.Disk.{View, IsPut, Torn}
-use Rattle.gm_shelf.specs.LastSector.{OldOrNew, IsDone}
-use Rattle.gm_metadata.specs.Reading.{encoded}
-use Rattle.gm_metadata.specs.declared.metadata.Metadata.{Metadata}
-use Rattle.gm_state.specs.declared.records.Mirror.{Mirror}
-use Rattle.gm_state.specs.declared.records.Component.{Component}
-use Rattle.gm_state.specs.Records.{Records, IsState, name, provider}
-use Rattle.gm_state.specs.Lookups.{at_component, metadata, metadata_of, mirror_of, component_of}
-use Rattle.gm_state.specs.Intents.{IsOf, is_last}
-use Rattle.gm_lists.proofs.Finding.{find_one, not_both}
+use Rattle.gm_apply.proofs.Common.{◌≡◌, ◌⊎◌, inl, inr, ⊎_elim, ℕ, ◌+◌, List, true, false, ◌==◌, refl, sym, ◌∙◌, ap, subst, arith, Option, option_map, None, Some, zero, suc, eqb-true, cases_Bool, eqb_tells, Image, Sizes, Same, put, label_tells, label_refl, View, IsPut, Torn, OldOrNew, IsDone, encoded, Metadata, Mirror, Component, Records, IsState, name, provider, at_component, metadata, metadata_of, mirror_of, component_of, IsOf, is_last, find_one, not_both, last_of, with_places, SomePlacesNew, PlacesAreNew, Moments}
 use Rattle.gm_state.proofs.TestsTellRules.{member}
-use Rattle.gm_apply.specs.Redo.{last_of, with_places, SomePlacesNew, PlacesAreNew, Moments}
 use Rattle.gm_apply.proofs.UnderWay.{laid_in, laid_out}
 
 module _ (size : Sizes) (p : List ℕ) (i : ℕ) (is : size p ≡ Some (i + 1)) where

@@ -1,21 +1,5 @@
 -- The part that is asked for serves to decide on the command.
-use Rattle.std.proofs.Common.{◌≡◌, ◌∙◌, ◌⊎◌, inl, inr, ⊎_elim, ℕ, true, ◌||◌, ◌==◌, refl, sym, subst, List, [], ◌∷◌, Option, Some, None, eqb-true, eq-eqb}
-use Rattle.std.specs.List.{cons_option, list_any}
-use Rattle.std.proofs.lemmas.Bool.{or_cases, or_left, or_right}
-use Rattle.gm_metadata.specs.declared.metadata.Metadata.{Metadata}
-use Rattle.gm_commands.specs.declared.command.Command.{Command}
-use Rattle.gm_commands.specs.declared.command.Command.TheVariants.{Label, Adopt}
-use Rattle.gm_state.specs.declared.records.Mirror.{Mirror}
-use Rattle.gm_state.specs.Records.{Records, IsState}
-use Rattle.gm_lists.specs.Ordered.{Has}
-use Rattle.gm_lists.proofs.Lists.{filter-Has}
-use Rattle.gm_refusals.specs.Adoptable.{found_mids, mid_of, tells_mid, told}
-use Rattle.gm_refusals.specs.Applies.{has_mid, takes_mid}
-use Rattle.gm_refusals.specs.PartOf.{IsPartToDecide, any_named, is_asked, is_called, is_named, part_of}
-use Rattle.gm_refusals.specs.Seen.{Seen, is_there_and}
-use Rattle.gm_state.specs.Records.{members}
-use Rattle.gm_refusals.proofs.SeenAlike.{same_mid}
-use Rattle.gm_bench.specs.AdoptScope.{adopted_from}
+use Rattle.gm_bench.proofs.Common.{◌≡◌, ◌∙◌, ◌⊎◌, inl, inr, ⊎_elim, ℕ, true, ◌||◌, ◌==◌, refl, sym, subst, List, [], ◌∷◌, Option, Some, None, eqb-true, eq-eqb, cons_option, list_any, or_cases, or_left, or_right, Metadata, Command, Label, Adopt, Mirror, Records, IsState, Has, filter-Has, found_mids, mid_of, tells_mid, told, has_mid, takes_mid, IsPartToDecide, any_named, is_asked, is_called, is_named, part_of, Seen, is_there_and, members, same_mid, adopted_from}
 
 -- a mid that a last sector tells of is one of those found
 one_more : (mid : ℕ) (o : Option Metadata) (others : List ℕ)

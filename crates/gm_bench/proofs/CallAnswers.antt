@@ -1,32 +1,10 @@
 -- What a call is answered, from what the registry and the rules say.
-use Rattle.std.proofs.Common.{◌≡◌, ◌≢◌, ◌∙◌, ℕ, suc, ◌+◌, ◌<◌, ◌≤◌, ◌==◌, true, false, List, [], ◌∷◌, map, filter, length, refl, sym, ap, arith, true≢false}
-use Rattle.std.proofs.lemmas.Bool.{ne_eqb}
-use Rattle.std.proofs.lemmas.List.{length-map}
-use Rattle.std.proofs.lemmas.List.Sorted.{IsPermutation-sym, length_permutation}
-use Rattle.gm_commands.specs.declared.command.Command.{Command}
-use Rattle.gm_state.specs.declared.intents.Reply.{Reply}
-use Rattle.gm_state.specs.declared.intents.Reply.TheVariants.{Plain, Copied}
-use Rattle.gm_commands.specs.Commands.{CommandFits, words_of}
-use Rattle.gm_lists.specs.Ordered.{Has}
-use Rattle.gm_state.specs.Rows.{Tables, CommandRow, HoldRecords, answer_row, copied_of, total_of}
-use Rattle.gm_state.specs.World.{World, Answered, Sound, ReplyFits}
-use Rattle.gm_commands.specs.Commands.{is_key}
-use Rattle.gm_lists.proofs.Order.{same_from}
+use Rattle.gm_bench.proofs.Common.{◌≡◌, ◌≢◌, ◌∙◌, ℕ, suc, ◌+◌, ◌<◌, ◌≤◌, ◌==◌, true, false, List, [], ◌∷◌, map, filter, length, refl, sym, ap, arith, true≢false, ne_eqb, length-map, IsPermutation-sym, length_permutation, Command, Reply, Plain, Copied, CommandFits, words_of, Has, Tables, CommandRow, HoldRecords, answer_row, copied_of, total_of, World, Answered, Sound, ReplyFits, is_key, same_from, filter-Has, map-Has, same_command, Has-map, Refusal, NoMirror, NameTaken, MidTaken, Absent, ProviderTaken, CarriesMetadata, TooSmall, NotMember, DidTaken, Full, TooManyMirrors, SomeLost, LastActive, AlreadyInactive, NotInactive, NoneLost, NotSynchronizing, LastSyncid, LastGenid, NothingGiven, NotAdoptable, WrongSize, NoMetadata, BeingFilled, BeyondEnd, number_of, number_of_call, NoKey, KeyTaken, NoRoom, ByRules, IsLeast, seen_of, Call, IsBadCall, Calls, Step, Bad, IsFree, is_under, reply_in, count_of}
 use Rattle.gm_lists.proofs.Sorting.{Has-permutation}
-use Rattle.gm_lists.proofs.Lists.{filter-Has}
-use Rattle.gm_lists.proofs.Lists.{map-Has}
-use Rattle.gm_commands.proofs.OneCommand.{same_command}
-use Rattle.gm_lists.proofs.Lists.{Has-map}
-use Rattle.gm_refusals.specs.declared.refusals.Refusal.{Refusal}
-use Rattle.gm_refusals.specs.declared.refusals.Refusal.TheVariants.{NoMirror, NameTaken, MidTaken, Absent, ProviderTaken, CarriesMetadata, TooSmall, NotMember, DidTaken, Full, TooManyMirrors, SomeLost, LastActive, AlreadyInactive, NotInactive, NoneLost, Inactive, NotSynchronizing, LastSyncid, LastGenid, NothingGiven, NotAdoptable, WrongSize, NoMetadata, BeingFilled, BeyondEnd}
-use Rattle.gm_refusals.specs.Refusals.{number_of, number_of_call}
+use Rattle.gm_refusals.specs.declared.refusals.Refusal.TheVariants.{Inactive}
 use Rattle.gm_refusals.specs.declared.refusals.CallRefusal.{CallRefusal}
-use Rattle.gm_refusals.specs.declared.refusals.CallRefusal.TheVariants.{NoKey, KeyTaken, NoRoom, ByRules}
-use Rattle.gm_refusals.specs.Applies.{IsLeast}
-use Rattle.gm_refusals.specs.WorldFacts.{seen_of}
-use Rattle.gm_rules.specs.AbstractCalls.{Call, IsBadCall, Done, Repeated, Refused, Calls}
-use Rattle.gm_rules.specs.Step.{Step, Bad}
-use Rattle.gm_registry.specs.Replies.{IsKept as IsKeptIn, IsFree, is_under, reply_in, count_of}
+use Rattle.gm_rules.specs.AbstractCalls.{Done, Repeated, Refused}
+use Rattle.gm_registry.specs.Replies.{IsKept as IsKeptIn}
 
 none_has : {X : Type 0} (xs : List X) (x : X) → xs ≡ [] → Has xs x → ⊥
 none_has [] x e h = h

@@ -1,26 +1,10 @@
 -- What a command that is handed in is answered, from what its parts do.
-use Rattle.std.proofs.Common.{◌≡◌, ◌∙◌, inl, inr, ℕ, List, [], refl, sym, ap, subst, subst₂}
-use Rattle.sqlite_trees.specs.declared.store.Store.{Ghosts}
-use Rattle.sqlite.specs.Held.{Held}
-use Rattle.gm_metadata.specs.Images.{Image}
+use Rattle.gm_bench.proofs.Common.{◌≡◌, ◌∙◌, inl, inr, ℕ, List, [], refl, sym, ap, subst, subst₂, Ghosts, Held, Image, Command, Reply, World, Accepted, Answer, Done, Repeated, Work, Progress, Ready, Pending, Applied, LeavesStep, IsAnswered, IsDone, AcceptAnswers, AcceptLeaves, ApplyDoes, ApplyLeaves, LeavesRun, answer_of, phase_carried, phase_of, progress_after, waiting_of, IsAt, LeavesOnly, IsRun, IsHandedIn, Stands}
 use Rattle.gm_shelf.specs.declared.shelf.Shelf.{Ghosts as ShelfGhosts}
-use Rattle.gm_commands.specs.declared.command.Command.{Command}
-use Rattle.gm_state.specs.declared.intents.Reply.{Reply}
-use Rattle.gm_state.specs.World.{World}
-use Rattle.gm_bench.specs.declared.answer.Accepted.{Accepted}
 use Rattle.gm_bench.specs.declared.answer.Accepted.TheVariants as accepted
-use Rattle.gm_bench.specs.declared.answer.Answer.{Answer}
-use Rattle.gm_bench.specs.declared.answer.Answer.TheVariants.{Done, Repeated, Refused}
-use Rattle.gm_bench.specs.declared.answer.Work.{Work}
-use Rattle.gm_bench.specs.declared.phase.Progress.{Progress}
-use Rattle.gm_bench.specs.declared.phase.Progress.TheVariants.{Ready, Pending, Applied}
+use Rattle.gm_bench.specs.declared.answer.Answer.TheVariants.{Refused}
 use Rattle.gm_bench.specs.declared.phase.Phase.TheVariants as phase
-use Rattle.gm_bench.specs.Accepting.{LeavesStep, IsAnswered, IsDone}
-use Rattle.gm_bench.specs.Owed.{AcceptAnswers, AcceptLeaves, ApplyDoes, ApplyLeaves, LeavesRun}
-use Rattle.gm_bench.specs.Phases.{answer_of, phase_carried, phase_of, progress_after, waiting_of}
-use Rattle.gm_bench.specs.Recovering.{IsAt, LeavesOnly}
-use Rattle.gm_bench.specs.Running.{IsRun}
-use Rattle.gm_bench.specs.Standing.{Carries, IsHandedIn, Stands}
+use Rattle.gm_bench.specs.Standing.{Carries}
 use Rattle.gm_bench.proofs.Phases.{is_ready, was_done}
 use Rattle.gm_bench.proofs.RegistryLeaves.{then_only}
 use Rattle.gm_bench.proofs.Standing.{carried_so, stands_still}

@@ -1,18 +1,6 @@
 -- The redo of a bench's intents, by what `apply` promises.
-use Rattle.std.proofs.Common.{◌≡◌, ◌∙◌, ℕ, List, sym, subst}
-use Rattle.sqlite_trees.specs.declared.store.Store.{Ghosts}
-use Rattle.sqlite.specs.Held.{Held}
-use Rattle.gm_metadata.specs.Images.{Image, Sizes}
+use Rattle.gm_bench.proofs.Common.{◌≡◌, ◌∙◌, ℕ, List, sym, subst, Ghosts, Held, Image, Sizes, IsLawful, Intent, IsAtHand, Records, Has, World, CrashLeavesOnly, AllLead, Cover, IsAt, IsShelfOf, LeavesOnly}
 use Rattle.gm_shelf.specs.declared.shelf.Shelf.{Ghosts as ShelfGhosts}
-use Rattle.gm_shelf.specs.Disk.{IsLawful}
-use Rattle.gm_state.specs.declared.intents.Intent.{Intent}
-use Rattle.gm_state.specs.Intents.{IsAtHand}
-use Rattle.gm_state.specs.Records.{Records}
-use Rattle.gm_lists.specs.Ordered.{Has}
-use Rattle.gm_state.specs.World.{World}
-use Rattle.gm_registry.specs.Registry.{CrashLeavesOnly}
-use Rattle.gm_bench.specs.Leading.{AllLead}
-use Rattle.gm_bench.specs.Recovering.{Cover, IsAt, IsShelfOf, LeavesOnly}
 use Rattle.gm_bench.proofs.RedoLeadsOn.{Moments, End, any_moment, counts, ends}
 use Rattle.gm_bench.proofs.RegistryLeaves.{redo_leaves}
 

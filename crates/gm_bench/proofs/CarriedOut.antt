@@ -1,23 +1,7 @@
 -- A bench whose pending intents are done: without them its tables lead to the same world.
-use Rattle.std.proofs.Common.{◌≡◌, ◌∙◌, ℕ, List, [], refl, sym, ap, subst}
-use Rattle.std.specs.List.Sorted.{IsPermutation}
-use Rattle.sqlite_trees.specs.declared.store.Store.{Ghosts}
-use Rattle.sqlite.specs.Held.{Held}
-use Rattle.gm_metadata.specs.Images.{Image}
+use Rattle.gm_bench.proofs.Common.{◌≡◌, ◌∙◌, ℕ, List, [], refl, sym, ap, subst, IsPermutation, Ghosts, Held, Image, IsLawful, Intent, Records, Tables, HoldRecords, intent_rows, patch_rows, World, AreRecordsOf, settled, Waiting, Nothing, HasNothingElse, WaitsFor, left_by, HasNothingPending, AreAmong, whole, Leads, IsAt, IsCarriedOut, IsShelfOf}
 use Rattle.gm_shelf.specs.declared.shelf.Shelf.{Ghosts as ShelfGhosts}
-use Rattle.gm_shelf.specs.Disk.{IsLawful}
-use Rattle.gm_state.specs.declared.intents.Intent.{Intent}
-use Rattle.gm_state.specs.Records.{Records}
-use Rattle.gm_state.specs.Rows.{Tables, HoldRecords, intent_rows, patch_rows}
-use Rattle.gm_state.specs.World.{World}
-use Rattle.gm_rows.specs.ReadableTables.{AreRecordsOf}
-use Rattle.gm_registry.specs.Changes.{settled}
-use Rattle.gm_bench.specs.declared.phase.Waiting.{Waiting}
-use Rattle.gm_bench.specs.declared.phase.Waiting.TheVariants.{Nothing, Done}
-use Rattle.gm_bench.specs.Accepting.{HasNothingElse, WaitsFor, left_by}
-use Rattle.gm_bench.specs.Calls.{HasNothingPending}
-use Rattle.gm_bench.specs.Leading.{AreAmong, whole, Leads}
-use Rattle.gm_bench.specs.Recovering.{IsAt, IsCarriedOut, IsShelfOf}
+use Rattle.gm_bench.specs.declared.phase.Waiting.TheVariants.{Done}
 use Rattle.gm_bench.proofs.CommitLeadsOn.{no_rows}
 use Rattle.gm_bench.proofs.ShelfProviders.{masked, there_full, whole_there}
 use Rattle.gm_bench.proofs.WorldAtRest.{at_rest, rest_leads, whole_rest}

@@ -1,21 +1,10 @@
 -- Which fault of a medium a fault of the bench comes from.
-use Rattle.std.proofs.Common.{◌≡◌, ◌⊎◌, inl, inr, ℕ, ◌≤◌, ◌<◌, List, Option, Some, None, Result, Ok, Err, refl, subst, arith}
-use Rattle.std.specs.Prelude.{IsSomeAnd, IsErrOf}
+use Rattle.gm_bench.proofs.Common.{◌≡◌, ◌⊎◌, inl, inr, ℕ, ◌≤◌, ◌<◌, List, Option, Some, None, Result, Ok, Err, refl, subst, arith, IsSomeAnd, IsErrOf, Sizes, Intent, Meta, Clear, Copy, Dirty, Patch, IsAtHand, LacksProvider, LacksSector, ShelfFault, BenchFault, Closed, Disk, Memory, Store, Unreadable, TakenUp, IsBeforeWrites, IsOfOpening, of_store, of_shelf, IsUnwritten}
 use Rattle.std.specs.Result.{IsErrAnd}
-use Rattle.gm_metadata.specs.Images.{Sizes}
-use Rattle.gm_state.specs.declared.intents.Intent.{Intent}
-use Rattle.gm_state.specs.declared.intents.Intent.TheVariants.{Meta, Clear, Copy, Dirty, Patch}
-use Rattle.gm_state.specs.Intents.{IsAtHand}
-use Rattle.gm_apply.specs.Redo.{LacksProvider, LacksSector}
 use Rattle.gm_rows.specs.declared.fault.StoreFault.{StoreFault}
 use Rattle.gm_rows.specs.declared.fault.StoreFault.TheVariants as store
-use Rattle.gm_shelf.specs.declared.fault.ShelfFault.{ShelfFault}
 use Rattle.gm_shelf.specs.declared.fault.ShelfFault.TheVariants as shelf
-use Rattle.gm_bench.specs.declared.fault.BenchFault.{BenchFault}
-use Rattle.gm_bench.specs.declared.fault.BenchFault.TheVariants.{Closed, Disk, Absent, Memory, Store, Unreadable}
-use Rattle.gm_bench.specs.declared.take_up_without.TakenUp.{TakenUp}
-use Rattle.gm_bench.specs.Faults.{IsBeforeWrites, IsOfOpening, of_store, of_shelf}
-use Rattle.gm_bench.specs.GivingUp.{IsUnwritten}
+use Rattle.gm_bench.specs.declared.fault.BenchFault.TheVariants.{Absent}
 
 -- what `?` passes on is the fault that it was given
 pub fault_is : {T E : Type 0} (r : Result T E) (given e : E) → IsErrAnd r (λ x. x ≡ given)

@@ -1,23 +1,6 @@
 -- At rest images claim the data of before, whatever command comes next.
-use Rattle.std.proofs.Common.{◌≡◌, ◌∙◌, inl, inr, ℕ, ◌+◌, ◌-◌, ◌≤◌, ◌==◌, false, List, Some, refl, sym, ap, subst, arith}
-use Rattle.std.specs.Prelude.{IsSome}
-use Rattle.std.proofs.lemmas.Bool.{cases_Bool}
-use Rattle.std.proofs.lemmas.Bool.Decides.{nat_tests}
-use Rattle.gm_metadata.specs.Images.{Image, SameThere, same_label}
-use Rattle.gm_commands.specs.declared.command.Command.{Command}
+use Rattle.gm_bench.proofs.Common.{◌≡◌, ◌∙◌, inl, inr, ℕ, ◌+◌, ◌-◌, ◌≤◌, ◌==◌, false, List, Some, refl, sym, ap, subst, arith, IsSome, cases_Bool, nat_tests, Image, SameThere, same_label, Command, Has, put, find_one, same_is, put_there, Intent, Mirror, mirror_of, name, World, Sound, Claims, data_at, bears_one, same_data, some_there, sound_claims, Plan}
 use Rattle.gm_commands.specs.declared.command.Command.TheVariants.{Patch}
-use Rattle.gm_lists.specs.Ordered.{Has, put}
-use Rattle.gm_lists.proofs.Finding.{find_one}
-use Rattle.gm_lists.proofs.Order.{same_is}
-use Rattle.gm_lists.proofs.Putting.{put_there}
-use Rattle.gm_state.specs.declared.intents.Intent.{Intent}
-use Rattle.gm_state.specs.declared.records.Mirror.{Mirror}
-use Rattle.gm_state.specs.Lookups.{mirror_of}
-use Rattle.gm_state.specs.Records.{name}
-use Rattle.gm_state.specs.World.{World, Sound, Claims, data_at}
-use Rattle.gm_state.proofs.EncodedSectors.{bears_one}
-use Rattle.gm_state.proofs.SoundClaims.{same_data, some_there, sound_claims}
-use Rattle.gm_rules.specs.Step.{Plan}
 
 -- a syncid of before isn't the next one
 not_next : (n m : ℕ) → n ≤ m → (m + 1 == n) ≡ false

@@ -1,27 +1,5 @@
 -- A commit leads to the step of its command.
-use Rattle.std.proofs.Common.{◌≡◌, ◌∙◌, ℕ, ◌+◌, ◌-◌, List, [], ◌∷◌, ◌++◌, map, length, refl, sym, ap, subst, arith, append-nil}
-use Rattle.std.specs.Prelude.{IsSome}
-use Rattle.std.specs.List.Sorted.{IsPermutation}
-use Rattle.std.proofs.lemmas.List.{length-map}
-use Rattle.std.proofs.lemmas.List.Sorted.{IsPermutation-refl, IsPermutation-cons, length_permutation}
-use Rattle.gm_metadata.specs.Images.{Image, Sizes}
-use Rattle.gm_metadata.specs.Sector.{Bears}
-use Rattle.gm_commands.specs.declared.command.Command.{Command}
-use Rattle.gm_state.specs.declared.intents.Reply.{Reply}
-use Rattle.gm_commands.specs.Commands.{words_of}
-use Rattle.gm_state.specs.Intents.{IsAtHand, IsRedo}
-use Rattle.gm_state.specs.Records.{Records}
-use Rattle.gm_state.specs.Rows.{Tables, CommandRow, answer_row, intent_rows, patch_rows}
-use Rattle.gm_state.specs.World.{World, Answered, present}
-use Rattle.gm_state.proofs.SoundClaims.{some_there}
-use Rattle.gm_changes.specs.After.{reply_to}
-use Rattle.gm_changes.specs.Decides.{Changed, Makes, changed_by}
-use Rattle.gm_rules.specs.Step.{Plan, answer}
-use Rattle.gm_refusals.specs.WorldFacts.{seen_of}
-use Rattle.gm_registry.specs.Changes.{with_accepted, command_row}
-use Rattle.gm_rows.specs.ReadableTables.{HoldState}
-use Rattle.gm_registry.proofs.Written.{change_held, change_intents, change_commands, change_patches}
-use Rattle.gm_bench.specs.Leading.{Leads, KeepsClaims, EachNewClaims}
+use Rattle.gm_bench.proofs.Common.{◌≡◌, ◌∙◌, ℕ, ◌+◌, ◌-◌, List, [], ◌∷◌, ◌++◌, map, length, refl, sym, ap, subst, arith, append-nil, IsSome, IsPermutation, length-map, IsPermutation-refl, IsPermutation-cons, length_permutation, Image, Sizes, Bears, Command, Reply, words_of, IsAtHand, IsRedo, Records, Tables, CommandRow, answer_row, intent_rows, patch_rows, World, Answered, present, some_there, reply_to, Changed, Makes, changed_by, Plan, answer, seen_of, with_accepted, command_row, HoldState, change_held, change_intents, change_commands, change_patches, Leads, KeepsClaims, EachNewClaims}
 use Rattle.gm_bench.proofs.ShelfProviders.{at_hand_up, masked}
 use Rattle.gm_bench.proofs.ClaimsBefore.{claims_before}
 use Rattle.gm_bench.proofs.WorldAtRest.{at_rest}

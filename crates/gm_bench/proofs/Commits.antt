@@ -1,30 +1,7 @@
 -- The commit of a command: the world before or its step, and at the end the step.
-use Rattle.std.proofs.Common.{◌≡◌, ◌∙◌, inl, inr, ℕ, ◌+◌, List, [], None, sym, ap, subst, subst₂, if◌then◌else◌}
-use Rattle.sqlite_trees.specs.declared.store.Store.{Ghosts}
-use Rattle.sqlite.specs.Held.{Held}
-use Rattle.gm_metadata.specs.Images.{Image, Sizes}
+use Rattle.gm_bench.proofs.Common.{◌≡◌, ◌∙◌, inl, inr, ℕ, ◌+◌, List, [], None, sym, ap, subst, subst₂, if◌then◌else◌, Ghosts, Held, Image, Sizes, IsLawful, Command, Intent, Reply, words_of, IsAtHand, Records, Tables, World, present, intents_of, reply_to, Plan, CanAnswer, HasPlan, every_plan, settled, with_accepted, CrashLeavesOnly, DiskKept, HasSaved, MayLeave, count_of, Planned, LeavesStep, IsDone, whole, Leads, AllLead, IsPlanned, Cover, IsAt, IsCarriedOut}
 use Rattle.gm_shelf.specs.declared.shelf.Shelf.{Ghosts as ShelfGhosts}
-use Rattle.gm_shelf.specs.Disk.{IsLawful}
-use Rattle.gm_commands.specs.declared.command.Command.{Command}
-use Rattle.gm_state.specs.declared.intents.Intent.{Intent}
-use Rattle.gm_state.specs.declared.intents.Reply.{Reply}
-use Rattle.gm_commands.specs.Commands.{words_of}
-use Rattle.gm_state.specs.Intents.{IsAtHand}
-use Rattle.gm_state.specs.Records.{Records}
-use Rattle.gm_state.specs.Rows.{Tables}
-use Rattle.gm_state.specs.World.{World, present}
-use Rattle.gm_changes.specs.After.{intents_of, reply_to}
-use Rattle.gm_rules.specs.Step.{Plan, CanAnswer, HasPlan}
 use Rattle.gm_rules.specs.AbstractCalls as run
-use Rattle.gm_rules.proofs.EveryPlan.{every_plan}
-use Rattle.gm_registry.specs.Changes.{settled, with_accepted}
-use Rattle.gm_registry.specs.Registry.{CrashLeavesOnly, DiskKept, HasSaved, MayLeave}
-use Rattle.gm_registry.specs.Replies.{count_of}
-use Rattle.gm_bench.specs.declared.plan.Planned.{Planned}
-use Rattle.gm_bench.specs.Accepting.{LeavesStep, IsDone}
-use Rattle.gm_bench.specs.Leading.{whole, Leads, AllLead}
-use Rattle.gm_bench.specs.Planning.{IsPlanned}
-use Rattle.gm_bench.specs.Recovering.{Cover, IsAt, IsCarriedOut}
 use Rattle.gm_bench.proofs.CallAnswers.{stepped}
 use Rattle.gm_bench.proofs.CarriedOut.{settled_leads}
 use Rattle.gm_bench.proofs.CommitLeadsOn.{commit_leads, commit_claims}

@@ -1,35 +1,8 @@
 -- What a call leaves that asks the rules, and writes nothing.
-use Rattle.std.proofs.Common.{◌≡◌, ◌∙◌, inl, inr, ℕ, ◌≤◌, ◌<◌, Bool, true, false, List, ap, subst, subst₂, sym, nat_le, arith, refl}
-use Rattle.std.specs.Prelude.{Result, Ok, Err, IfOk, IfErr}
-use Rattle.std.proofs.lemmas.Bool.Decides.{nat_tests}
-use Rattle.sqlite_trees.specs.declared.store.Store.{Ghosts}
-use Rattle.sqlite.specs.Held.{Held}
-use Rattle.sqlite.specs.Effect.{Database}
+use Rattle.gm_bench.proofs.Common.{◌≡◌, ◌∙◌, inl, inr, ℕ, ◌≤◌, ◌<◌, Bool, true, false, List, ap, subst, subst₂, sym, nat_le, arith, refl, Result, Ok, Err, IfOk, IfErr, nat_tests, Ghosts, Held, Database, Trees, Image, Sizes, IsLawful, IsQuiet, quiet_itself, quiet_moment, Command, Intent, IsAtHand, Has, World, CrashLeaves, CrashLeavesOnly, DiskKept, HasTables, IsRegistry, LeavesAlone, LeavesNothingNew, WasClean, Reads, state, survives_then, BenchFault, Media, TakenUp, OrStep, LeavesStep, IsOfRegistry, OnlyLooksUp, StaysUnlost, AllLead, IsCarriedOut, IsShelfOf, Recovers, IsSettling, saved, Tables}
 use Rattle.sqlite.specs.Schema.{Schema}
-use Rattle.sqlite.specs.Tree.{Trees}
-use Rattle.gm_metadata.specs.Images.{Image, Sizes}
 use Rattle.gm_shelf.specs.declared.shelf.Shelf.{Ghosts as ShelfGhosts}
-use Rattle.gm_shelf.specs.Disk.{IsLawful, IsQuiet}
-use Rattle.gm_shelf.proofs.InTurn.{quiet_itself, quiet_moment}
-use Rattle.gm_commands.specs.declared.command.Command.{Command}
-use Rattle.gm_state.specs.declared.intents.Intent.{Intent}
-use Rattle.gm_state.specs.Intents.{IsAtHand}
-use Rattle.gm_lists.specs.Ordered.{Has}
-use Rattle.gm_state.specs.World.{World}
-use Rattle.gm_registry.specs.Registry.{CrashLeaves, CrashLeavesOnly, DiskKept, HasTables, IsRegistry, LeavesAlone, LeavesNothingNew, WasClean, Reads}
-use Rattle.sqlite.specs.Held.{state}
-use Rattle.sqlite.proofs.StateLemmas.{survives_then}
-use Rattle.gm_bench.specs.declared.fault.BenchFault.{BenchFault}
-use Rattle.gm_bench.specs.declared.media.Media.{Media}
-use Rattle.gm_bench.specs.declared.take_up_without.TakenUp.{TakenUp}
-use Rattle.gm_bench.specs.Accepting.{OrStep, LeavesStep}
-use Rattle.gm_bench.specs.Faults.{IsOfRegistry}
-use Rattle.gm_bench.specs.GivingUp.{OnlyLooksUp, StaysUnlost}
-use Rattle.gm_bench.specs.Leading.{AllLead}
-use Rattle.gm_bench.specs.Recovering.{IsCarriedOut, IsShelfOf, Recovers}
 use Rattle.gm_bench.proofs.RegistryLeaves.{leads_in}
-use Rattle.gm_registry.proofs.CallsLeave.{IsSettling, saved}
-use Rattle.gm_state.specs.Rows.{Tables}
 
 -- a shelf that wasn't touched
 pub quiet_same : {H : Type 0} (j : ShelfGhosts H) (h k : H) → k ≡ h

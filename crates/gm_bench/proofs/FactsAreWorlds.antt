@@ -1,20 +1,7 @@
 -- Facts that were gathered say what the shelf says.
-use Rattle.std.proofs.Common.{◌≡◌, ◌∙◌, ◌⊎◌, ◌&&◌, inl, inr, ℕ, zero, suc, ◌+◌, ◌<◌, ◌≤◌, min, ap₂, arith, unwrap_or, option_map, List, [], ◌∷◌, ◌++◌, find, take, length, get_or, Option, Some, None, refl, sym, ap, subst}
-use Rattle.std.proofs.Math.Nat.{min-zero}
-use Rattle.std.proofs.lemmas.List.{take_more}
-use Rattle.gm_metadata.specs.Images.{Image, Sizes, Same, agree, same_label}
+use Rattle.gm_bench.proofs.Common.{◌≡◌, ◌∙◌, ◌⊎◌, ◌&&◌, inl, inr, ℕ, zero, suc, ◌+◌, ◌<◌, ◌≤◌, min, ap₂, arith, unwrap_or, option_map, List, [], ◌∷◌, ◌++◌, find, take, length, get_or, Option, Some, None, refl, sym, ap, subst, min-zero, take_more, Image, Sizes, Same, agree, same_label, IfSome, MatchOption, Has, same_is, same_from, found, found_none, not_both, option_cases, Fact, equals_in, size_in, CountsEqual, reach_of, Compared, AreEqual, IsFact, Tell, TellSizes, last_of, Has-push}
 use Rattle.std.specs.Str.{bytes_eq}
-use Rattle.std.specs.Prelude.{IfSome, MatchOption}
-use Rattle.gm_lists.specs.Ordered.{Has}
-use Rattle.gm_lists.proofs.Order.{same_is, same_from}
-use Rattle.gm_lists.proofs.Finding.{found, found_none, not_both, option_cases}
-use Rattle.gm_refusals.specs.declared.facts.Fact.{Fact}
-use Rattle.gm_refusals.specs.Facts.{equals_in, size_in}
-use Rattle.gm_apply.specs.EqualData.{CountsEqual, count_of, reach_of}
-use Rattle.gm_bench.specs.declared.adopt_scope.Compared.{Compared}
-use Rattle.gm_bench.specs.ShelfFacts.{AreEqual, IsFact, Tell, TellSizes}
-use Rattle.gm_shelf.specs.LastSector.{last_of}
-use Rattle.gm_lists.proofs.Lists.{Has-push}
+use Rattle.gm_apply.specs.EqualData.{count_of}
 
 -- the provider is absent, or there is an entry for it
 abbrev pub IsCovered : List Fact → Sizes → List ℕ → Type 0

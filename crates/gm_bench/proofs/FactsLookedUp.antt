@@ -1,32 +1,8 @@
 -- What was looked up is what the world says.
-use Rattle.std.proofs.Common.{◌≡◌, ◌∙◌, ℕ, Bool, ◌-◌, ◌<◌, ◌≤◌, ◌==◌, min, arith, List, [], Option, Some, None, map, option_map, refl, sym, ap, subst, if◌then◌else◌}
-use Rattle.std.specs.Prelude.{IsSome}
-use Rattle.std.proofs.Math.Nat.{le-min}
-use Rattle.gm_metadata.specs.Images.{Image, Sizes, zeros}
-use Rattle.gm_commands.specs.declared.command.Command.{Command}
-use Rattle.gm_commands.specs.declared.command.Command.TheVariants.{Adopt}
-use Rattle.gm_state.specs.Records.{Records, provider}
-use Rattle.gm_state.specs.Rows.{Tables}
-use Rattle.gm_lists.specs.Ordered.{Has}
-use Rattle.gm_state.specs.World.{World, present}
-use Rattle.gm_lists.proofs.Finding.{Has-append_left}
-use Rattle.gm_refusals.specs.declared.facts.Fact.{Fact}
-use Rattle.gm_refusals.specs.Adoptable.{data_of, source_in}
-use Rattle.gm_refusals.specs.Applies.{awaited, looked_at}
-use Rattle.gm_refusals.specs.Facts.{equals_in}
-use Rattle.gm_refusals.specs.Seen.{seen_in}
-use Rattle.gm_refusals.specs.WorldFacts.{AreFacts, TellEqual, needed_by, seen_of}
+use Rattle.gm_bench.proofs.Common.{◌≡◌, ◌∙◌, ℕ, Bool, ◌-◌, ◌<◌, ◌≤◌, ◌==◌, min, arith, List, [], Option, Some, None, map, option_map, refl, sym, ap, subst, if◌then◌else◌, IsSome, le-min, Image, Sizes, zeros, Command, Adopt, Records, provider, Tables, Has, World, present, Has-append_left, Fact, data_of, source_in, awaited, looked_at, equals_in, seen_in, AreFacts, TellEqual, needed_by, seen_of, SeeAlike, same_source, reach_of, Compared, adopted_from, compared_with, IsItself, whole, Leads, last_of, AreEqual, IsHonestToAdopt, Tell}
 use Rattle.gm_refusals.proofs.TakenProviders.{fitting_source, found_among, more_sectors, source_found}
-use Rattle.gm_refusals.proofs.SeenAlike.{SeeAlike, same_source}
-use Rattle.gm_apply.specs.EqualData.{reach_of}
-use Rattle.gm_bench.specs.declared.adopt_scope.Compared.{Compared}
-use Rattle.gm_bench.specs.AdoptScope.{adopted_from, compared_with}
 use Rattle.gm_shelf.specs.declared.shelf.Shelf.{Ghosts as ShelfGhosts}
-use Rattle.gm_rules.specs.Itself.{IsItself}
 use Rattle.gm_rules.proofs.AdoptedEqual.{agree_itself}
-use Rattle.gm_bench.specs.Leading.{whole, Leads}
-use Rattle.gm_shelf.specs.LastSector.{last_of}
-use Rattle.gm_bench.specs.ShelfFacts.{AreEqual, IsHonestToAdopt, Tell}
 use Rattle.gm_bench.proofs.ShelfProviders.{masked, there_full, whole_there}
 use Rattle.gm_bench.proofs.WorldAtRest.{at_rest}
 use Rattle.gm_bench.proofs.FactsAreWorlds.{agree_same}

@@ -1,19 +1,6 @@
 -- How many bytes are to be laid.
-use Rattle.std.proofs.Common.{◌≡◌, inl, inr, ℕ, ◌*◌, ◌≤◌, ◌==◌, true, IsTrue, refl, subst, arith, List, [], ◌∷◌, length, length-append, eqb-true}
-use Rattle.std.specs.List.{list_all, list_any}
-use Rattle.std.proofs.lemmas.Bool.{and_parts, cases_Bool}
-use Rattle.gm_commands.specs.declared.command.Command.{Command}
+use Rattle.gm_bench.proofs.Common.{◌≡◌, inl, inr, ℕ, ◌*◌, ◌≤◌, ◌==◌, true, IsTrue, refl, subst, arith, List, [], ◌∷◌, length, length-append, eqb-true, list_all, list_any, and_parts, cases_Bool, Command, CommandFits, is_bytes, is_sector, Has, some_any, Intent, Meta, Clear, Copy, Dirty, Patch, is_patch, IsPatchWithin, AreReadable, AreSectors, Records, IsState, joined, bytes_of}
 use Rattle.gm_commands.specs.declared.command.Command.TheVariants as commands
-use Rattle.gm_commands.specs.Commands.{CommandFits}
-use Rattle.gm_commands.specs.Sectors.{is_bytes, is_sector}
-use Rattle.gm_lists.specs.Ordered.{Has}
-use Rattle.gm_lists.proofs.Finding.{some_any}
-use Rattle.gm_state.specs.declared.intents.Intent.{Intent}
-use Rattle.gm_state.specs.declared.intents.Intent.TheVariants.{Meta, Clear, Copy, Dirty, Patch}
-use Rattle.gm_state.specs.Readable.{is_patch, IsPatchWithin, AreReadable, AreSectors}
-use Rattle.gm_state.specs.Records.{Records, IsState}
-use Rattle.gm_state.specs.Rows.{joined}
-use Rattle.gm_changes.specs.After.{bytes_of}
 
 -- what words can say are sectors
 are_sectors : (ss : List (List ℕ)) → IsTrue (list_all is_sector ss) → AreSectors ss

@@ -1,32 +1,5 @@
 -- What the rules decide of a loss fits the tables, and how many intents are pending after it.
-use Rattle.std.proofs.Common.{◌≡◌, inl, inr, ℕ, ◌+◌, ◌≤◌, ◌<◌, ◌^◌, true, refl, arith, subst, List, [], ◌∷◌, length, string_bytes, IfOk, Result, Ok, Err, length-append}
-use Rattle.std.proofs.lemmas.Bool.{cases_Bool}
-use Rattle.std.proofs.lemmas.List.{length-map}
-use Rattle.gm_metadata.specs.Images.{Sizes}
-use Rattle.gm_commands.specs.declared.command.Command.TheVariants.{Lost}
-use Rattle.gm_commands.specs.Commands.{CommandFits, is_key, words_of}
-use Rattle.gm_state.specs.declared.intents.Intent.{Intent}
-use Rattle.gm_state.specs.declared.intents.Intent.TheVariants.{Meta}
-use Rattle.gm_state.specs.declared.records.Component.{Component}
-use Rattle.gm_state.specs.Readable.{AreReadable}
-use Rattle.gm_state.specs.Records.{Records, IsState, members}
-use Rattle.gm_state.specs.Rows.{Tables}
-use Rattle.gm_refusals.specs.declared.facts.Fact.{Fact}
-use Rattle.gm_refusals.specs.declared.refusals.Refusal.{Refusal}
-use Rattle.gm_refusals.specs.Seen.{seen_in}
-use Rattle.gm_changes.specs.After.{after, metas}
-use Rattle.gm_changes.specs.Decides.{Changed, Decides}
-use Rattle.gm_changes.proofs.FewWritten.{few_members}
-use Rattle.gm_rows.specs.ReadableTables.{AreRecordsOf}
-use Rattle.gm_registry.specs.Changes.{settled, with_pending}
-use Rattle.gm_registry.specs.FittingChanges.{FitsTables}
-use Rattle.gm_registry.specs.Replies.{IsFree, count_of}
-use Rattle.gm_bench.specs.declared.loss.Judged.{Judged}
-use Rattle.gm_bench.specs.declared.loss.Judged.TheVariants.{Kept, Refused, New}
-use Rattle.gm_bench.specs.declared.loss.Loss.{Loss}
-use Rattle.gm_bench.specs.Losing.{remaining, writes_to}
-use Rattle.gm_bench.specs.Planning.{IsFitting}
-use Rattle.gm_bench.specs.Without.{CanBeCommitted, CanCommit, IsRedirected}
+use Rattle.gm_bench.proofs.Common.{◌≡◌, inl, inr, ℕ, ◌+◌, ◌≤◌, ◌<◌, ◌^◌, true, refl, arith, subst, List, [], ◌∷◌, length, string_bytes, IfOk, Result, Ok, Err, length-append, cases_Bool, length-map, Sizes, Lost, CommandFits, is_key, words_of, Intent, Meta, Component, AreReadable, Records, IsState, members, Tables, Fact, Refusal, seen_in, after, metas, Changed, Decides, few_members, AreRecordsOf, settled, with_pending, FitsTables, IsFree, count_of, Judged, Kept, Refused, New, Loss, remaining, writes_to, IsFitting, CanBeCommitted, CanCommit, IsRedirected}
 use Rattle.gm_bench.proofs.FewBytes.{few_pending}
 use Rattle.gm_bench.proofs.FittingPlans.{fits_with, made_fits}
 use Rattle.gm_bench.proofs.PlannedAlone.{planned_state}

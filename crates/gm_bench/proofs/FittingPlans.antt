@@ -1,30 +1,7 @@
 -- What the rules decide on a state fits the tables of that state.
-use Rattle.std.proofs.Common.{◌≡◌, ◌≢◌, ◌≤◌, inr, ℕ, ◌<◌, ◌^◌, true, refl, sym, subst, arith, List, length, IfOk, Result, Ok, Err}
-use Rattle.std.specs.List.{AllByRecursion}
-use Rattle.gm_commands.specs.declared.command.Command.{Command}
-use Rattle.gm_commands.specs.Commands.{CommandFits, is_key, words_of}
-use Rattle.gm_state.specs.declared.intents.Intent.{Intent}
-use Rattle.gm_state.specs.Records.{Records, IsState}
-use Rattle.gm_state.specs.Rows.{IntentRow, Tables, joined}
-use Rattle.gm_state.specs.World.{ReplyFits}
-use Rattle.gm_refusals.specs.declared.facts.Fact.{Fact}
-use Rattle.gm_refusals.specs.declared.refusals.Refusal.{Refusal}
-use Rattle.gm_refusals.specs.Seen.{Seen, seen_in}
-use Rattle.gm_changes.specs.After.{after, intents_of}
-use Rattle.gm_changes.specs.Decides.{Changed, Decides, Makes, changed_by}
-use Rattle.gm_changes.proofs.FewWritten.{few_intents, few_put}
-use Rattle.gm_rules.specs.Itself.{IsItself}
-use Rattle.gm_rules.proofs.StandIn.{reply_told}
-use Rattle.gm_rows.specs.ReadableTables.{AreRecordsOf}
-use Rattle.gm_registry.specs.Changes.{settled, with_pending}
-use Rattle.gm_registry.specs.FittingChanges.{FitsTables}
-use Rattle.gm_registry.specs.Replies.{IsFree}
+use Rattle.gm_bench.proofs.Common.{◌≡◌, ◌≢◌, ◌≤◌, inr, ℕ, ◌<◌, ◌^◌, true, refl, sym, subst, arith, List, length, IfOk, Result, Ok, Err, AllByRecursion, Command, CommandFits, is_key, words_of, Intent, Records, IsState, IntentRow, Tables, joined, ReplyFits, Fact, Refusal, Seen, seen_in, after, intents_of, Changed, Decides, Makes, changed_by, few_intents, few_put, IsItself, reply_told, AreRecordsOf, settled, with_pending, FitsTables, IsFree, Waiting, Nothing, HasNothingElse, left_by, HasNothingPending, IsFitting}
 use Rattle.gm_registry.proofs.ChangesFit.{records_fit}
-use Rattle.gm_bench.specs.declared.phase.Waiting.{Waiting}
-use Rattle.gm_bench.specs.declared.phase.Waiting.TheVariants.{Nothing, Done}
-use Rattle.gm_bench.specs.Accepting.{HasNothingElse, left_by}
-use Rattle.gm_bench.specs.Calls.{HasNothingPending}
-use Rattle.gm_bench.specs.Planning.{IsFitting}
+use Rattle.gm_bench.specs.declared.phase.Waiting.TheVariants.{Done}
 use Rattle.gm_bench.proofs.FewBytes.{few_laid}
 use Rattle.gm_bench.proofs.PlannedAlone.{planned_state}
 use Rattle.gm_bench.proofs.ShortWords.{key_short, words_short}

@@ -1,21 +1,6 @@
 -- What the tables of a bench say when they are loaded.
-use Rattle.std.proofs.Common.{◌≡◌, ℕ, List, None, sym, subst}
-use Rattle.sqlite_trees.specs.declared.store.Store.{Ghosts}
-use Rattle.sqlite.specs.Held.{Held}
-use Rattle.gm_metadata.specs.Images.{Image}
+use Rattle.gm_bench.proofs.Common.{◌≡◌, ℕ, List, None, sym, subst, Ghosts, Held, Image, IsLawful, Intent, IsOf, IsAtHand, Records, IsState, Has, World, same_mirror, same_component, AreTablesOf, one_reading, whole, Leads, Cover, IsFound, IsAt, first_absent}
 use Rattle.gm_shelf.specs.declared.shelf.Shelf.{Ghosts as ShelfGhosts}
-use Rattle.gm_shelf.specs.Disk.{IsLawful}
-use Rattle.gm_state.specs.declared.intents.Intent.{Intent}
-use Rattle.gm_state.specs.Intents.{IsOf, IsAtHand}
-use Rattle.gm_state.specs.Records.{Records, IsState}
-use Rattle.gm_lists.specs.Ordered.{Has}
-use Rattle.gm_state.specs.World.{World}
-use Rattle.gm_state.proofs.SameRows.{same_mirror, same_component}
-use Rattle.gm_rows.specs.ReadableTables.{AreTablesOf}
-use Rattle.gm_registry.proofs.OneReading.{one_reading}
-use Rattle.gm_bench.specs.Leading.{whole, Leads}
-use Rattle.gm_bench.specs.Recovering.{Cover, IsFound, IsAt}
-use Rattle.gm_bench.specs.Presence.{first_absent}
 use Rattle.gm_bench.proofs.Present.{at_hand}
 use Rattle.gm_bench.proofs.ReadTables.{tables_of}
 

@@ -1,31 +1,6 @@
 -- What is gathered to decide on a command serves to decide on it.
-use Rattle.std.proofs.Common.{◌≡◌, ◌∙◌, ℕ, List, [], Option, None, map, refl, sym, option_map}
-use Rattle.sqlite_trees.specs.declared.store.Store.{Ghosts}
-use Rattle.sqlite.specs.Held.{Held}
-use Rattle.gm_metadata.specs.Images.{Image, Sizes}
-use Rattle.gm_shelf.specs.Disk.{IsLawful}
+use Rattle.gm_bench.proofs.Common.{◌≡◌, ◌∙◌, ℕ, List, [], Option, None, map, refl, sym, option_map, Ghosts, Held, Image, Sizes, IsLawful, Command, Adopt, Intent, Mirror, Records, IsState, provider, Has, World, Has-append_left, Fact, found_mids, source_in, awaited, takes_mid, IsPartOf, IsPartToDecide, part_of, seen_in, AreFacts, needed_by, AreRecordsOf, settled, Compared, adopted_from, compared_with, whole, Leads, IsCarriedOut, IsHonestToAdopt, Tell}
 use Rattle.gm_shelf.specs.declared.shelf.Shelf.{Ghosts as ShelfGhosts}
-use Rattle.gm_commands.specs.declared.command.Command.{Command}
-use Rattle.gm_commands.specs.declared.command.Command.TheVariants.{Adopt}
-use Rattle.gm_state.specs.declared.intents.Intent.{Intent}
-use Rattle.gm_state.specs.declared.records.Mirror.{Mirror}
-use Rattle.gm_state.specs.Records.{Records, IsState, provider}
-use Rattle.gm_lists.specs.Ordered.{Has}
-use Rattle.gm_state.specs.World.{World}
-use Rattle.gm_lists.proofs.Finding.{Has-append_left}
-use Rattle.gm_refusals.specs.declared.facts.Fact.{Fact}
-use Rattle.gm_refusals.specs.Adoptable.{found_mids, source_in}
-use Rattle.gm_refusals.specs.Applies.{awaited, takes_mid}
-use Rattle.gm_refusals.specs.PartOf.{IsPartOf, IsPartToDecide, part_of}
-use Rattle.gm_refusals.specs.Seen.{seen_in}
-use Rattle.gm_refusals.specs.WorldFacts.{AreFacts, needed_by}
-use Rattle.gm_rows.specs.ReadableTables.{AreRecordsOf}
-use Rattle.gm_registry.specs.Changes.{settled}
-use Rattle.gm_bench.specs.declared.adopt_scope.Compared.{Compared}
-use Rattle.gm_bench.specs.AdoptScope.{adopted_from, compared_with}
-use Rattle.gm_bench.specs.Leading.{whole, Leads}
-use Rattle.gm_bench.specs.Recovering.{IsCarriedOut}
-use Rattle.gm_bench.specs.ShelfFacts.{IsHonestToAdopt, Tell}
 use Rattle.gm_bench.proofs.Asked.{serves, takes_alike}
 use Rattle.gm_bench.proofs.CarriedOut.{settled_leads}
 use Rattle.gm_bench.proofs.FactsLookedUp.{are_facts}

@@ -1,33 +1,9 @@
 -- The induction over a schedule.
-use Rattle.std.proofs.Common.{◌≡◌, ◌∙◌, ◌⊎◌, inl, inr, ℕ, Bool, suc, ◌+◌, None, List, [], ◌∷◌, length, map, refl, sym, ap, subst, arith, if◌then◌else◌}
-use Rattle.std.proofs.lemmas.List.{length-map}
-use Rattle.std.proofs.lemmas.List.Sorted.{length_permutation}
-use Rattle.sqlite_trees.specs.declared.store.Store.{Ghosts}
-use Rattle.sqlite.specs.Tree.{Trees}
-use Rattle.sqlite.specs.Held.{Held}
-use Rattle.gm_metadata.specs.Images.{Image, Sizes}
+use Rattle.gm_bench.proofs.Common.{◌≡◌, ◌∙◌, ◌⊎◌, inl, inr, ℕ, Bool, suc, ◌+◌, None, List, [], ◌∷◌, length, map, refl, sym, ap, subst, arith, if◌then◌else◌, length-map, length_permutation, Ghosts, Trees, Held, Image, Sizes, Command, Intent, Reply, answer_row, World, present, Step, Call, stored, no_tables, Accepted, Answer, Work, AcceptAnswers, IsLeft, LeavesRun, LookDoes, LookLeaves, RunAnswers, whole, Leads, KeepsClaims, AllLead, Recovers, IsCarriedOut, IsShelfOf, LeavesOnly, Waiting, LeavesStep, OrStep, WaitsFor, Phase, Event, Accept_returned, Accept_stopped, Apply_returned, Apply_stopped, Settle_returned, Settle_stopped, Run_returned, Run_stopped, Look_returned, Look_stopped, Open_returned, Open_stopped, Now, none, skips, keeps, Moved, Without_returned, Without_stopped, Without_carrying, Entry, Handed_in, Without, IsButMoved, IsStepWithout, Reached, ArePending, LeavesCommit, IsMove, HasCount, IsLeftIn, IsStop, IsRunStop, IsDoneOver, IsOpenOver, after_answer, after_run, with_media, Happens, IsStart, Runs, AtRest, OnTheWay, Stopped, Headline, Within}
 use Rattle.gm_shelf.specs.declared.shelf.Shelf.{Ghosts as ShelfGhosts}
-use Rattle.gm_commands.specs.declared.command.Command.{Command}
-use Rattle.gm_state.specs.declared.intents.Intent.{Intent}
-use Rattle.gm_state.specs.declared.intents.Reply.{Reply}
-use Rattle.gm_state.specs.Rows.{answer_row}
-use Rattle.gm_state.specs.World.{World, present}
-use Rattle.gm_rules.specs.Step.{Step}
-use Rattle.gm_rules.specs.AbstractCalls.{Call}
-use Rattle.gm_registry.specs.Registry.{stored}
-use Rattle.gm_rows.specs.Tables.{no_tables}
-use Rattle.gm_bench.specs.declared.answer.Accepted.{Accepted}
 use Rattle.gm_bench.specs.declared.answer.Accepted.TheVariants.{Done, Repeated, Refused}
-use Rattle.gm_bench.specs.declared.answer.Answer.{Answer}
 use Rattle.gm_bench.specs.declared.answer.Answer.TheVariants as run
-use Rattle.gm_bench.specs.declared.answer.Work.{Work}
-use Rattle.gm_bench.specs.Owed.{AcceptAnswers, IsLeft, LeavesRun, LookDoes, LookLeaves, RunAnswers}
-use Rattle.gm_bench.specs.Leading.{whole, Leads, KeepsClaims, AllLead}
-use Rattle.gm_bench.specs.Recovering.{Recovers, IsCarriedOut, IsShelfOf, LeavesOnly}
-use Rattle.gm_bench.specs.declared.phase.Waiting.{Waiting}
 use Rattle.gm_bench.specs.declared.phase.Waiting.TheVariants as waiting
-use Rattle.gm_bench.specs.Accepting.{LeavesStep, OrStep, WaitsFor}
-use Rattle.gm_bench.specs.Schedule.{Phase, Event, Accept_returned, Accept_stopped, Apply_returned, Apply_stopped, Settle_returned, Settle_stopped, Run_returned, Run_stopped, Look_returned, Look_stopped, Open_returned, Open_stopped, Now, none, skips, keeps, Moved, Without_returned, Without_stopped, Without_carrying, Entry, Handed_in, Without, IsButMoved, IsStepWithout, Reached, ArePending, LeavesCommit, IsMove, HasCount, IsLeftIn, IsStop, IsRunStop, IsDoneOver, IsOpenOver, after_answer, after_run, with_media, Happens, IsStart, Runs, AtRest, OnTheWay, Stopped, Headline, Within}
 use Rattle.gm_bench.proofs.Looks.{looked_at}
 use Rattle.gm_bench.proofs.CarriedOut.{at_of, carried_out, done_at_rest}
 use Rattle.gm_bench.proofs.MovedWorlds.{with_there, stays, moved_from, one_step, moved_reached, moved_last, last_pending, moved_leads, moved_keeps, reached_sizes, there_of, moved_present}

@@ -7,6 +7,7 @@ pub mod Causes
 pub mod ClaimsBefore
 pub mod CommitLeadsOn
 pub mod Commits
+pub mod Common
 pub mod DecidesOnly
 pub mod FactsAreWorlds
 pub mod FactsLookedUp

@@ -1,32 +1,7 @@
 -- What a look leaves: a call that reads both media and writes neither.
-use Rattle.std.proofs.Common.{◌≡◌, ◌∙◌, ℕ, List, Result, Ok, Err, refl, sym, subst, arith}
-use Rattle.std.specs.Prelude.{IsErrOf, OnOk}
-use Rattle.sqlite_trees.specs.declared.store.Store.{Ghosts}
-use Rattle.sqlite.specs.Held.{Held}
-use Rattle.gm_lists.specs.Ordered.{Has}
-use Rattle.gm_metadata.specs.Images.{Image, Sizes}
-use Rattle.gm_shelf.specs.Disk.{IsLawful, IsQuiet}
-use Rattle.gm_shelf.specs.Keeping.{Looks, ReadsOnly}
-use Rattle.gm_shelf.specs.declared.fault.ShelfFault.{ShelfFault}
+use Rattle.gm_bench.proofs.Common.{◌≡◌, ◌∙◌, ℕ, List, Result, Ok, Err, refl, sym, subst, arith, IsErrOf, OnOk, Ghosts, Held, Has, Image, Sizes, IsLawful, IsQuiet, Looks, ReadsOnly, ShelfFault, quiet_itself, quiet_moment, reads_itself, only_then, Intent, IsAtHand, Tables, World, DiskKept, HasTables, Reads, IsSettling, saved, progress_of, registry_of, shelf_of, LooksOn, TellsDisk, AllLead, LookDoes, LookLeaves, IsAt, Bench, BenchFault, of_shelf, Closed, Disk, Memory}
 use Rattle.gm_shelf.specs.declared.fault.ShelfFault.TheVariants as shelf
 use Rattle.gm_shelf.specs.declared.shelf.Shelf.{Ghosts as ShelfGhosts}
-use Rattle.gm_shelf.proofs.InTurn.{quiet_itself, quiet_moment, reads_itself}
-use Rattle.gm_shelf.proofs.Keeping.{only_then}
-use Rattle.gm_state.specs.declared.intents.Intent.{Intent}
-use Rattle.gm_state.specs.Intents.{IsAtHand}
-use Rattle.gm_state.specs.Rows.{Tables}
-use Rattle.gm_state.specs.World.{World}
-use Rattle.gm_registry.specs.Registry.{DiskKept, HasTables, Reads}
-use Rattle.gm_registry.proofs.CallsLeave.{IsSettling, saved}
-use Rattle.gm_bench.specs.Benches.{progress_of, registry_of, shelf_of}
-use Rattle.gm_bench.specs.Calls.{LooksOn, TellsDisk}
-use Rattle.gm_bench.specs.Leading.{AllLead}
-use Rattle.gm_bench.specs.Owed.{LookDoes, LookLeaves}
-use Rattle.gm_bench.specs.Recovering.{IsAt}
-use Rattle.gm_bench.specs.declared.bench.Bench.{Bench}
-use Rattle.gm_bench.specs.declared.fault.BenchFault.{BenchFault}
-use Rattle.gm_bench.specs.Faults.{of_shelf}
-use Rattle.gm_bench.specs.declared.fault.BenchFault.TheVariants.{Closed, Disk, Memory}
 use Rattle.gm_bench.proofs.DecidesOnly.{reads_none}
 use Rattle.gm_bench.proofs.RegistryLeaves.{read_only}
 

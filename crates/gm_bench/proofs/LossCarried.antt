@@ -1,23 +1,6 @@
 -- A loss that is committed is ready to be carried out; and one that wasn't leaves what was.
-use Rattle.std.proofs.Common.{◌≡◌, inl, inr, ℕ, List, [], None, refl, sym, ap, subst}
-use Rattle.sqlite_trees.specs.declared.store.Store.{Ghosts}
-use Rattle.sqlite.specs.Tree.{Trees}
-use Rattle.sqlite.specs.Held.{Held}
-use Rattle.gm_metadata.specs.Images.{Image}
+use Rattle.gm_bench.proofs.Common.{◌≡◌, inl, inr, ℕ, List, [], None, refl, sym, ap, subst, Ghosts, Trees, Held, Image, IsLawful, Call, Intent, Records, World, Tables, CrashLeaves, CrashLeavesOnly, DiskKept, HasTables, LeavesNothingNew, Loss, AllLead, first_absent, Cover, IsAt, IsFound, LeavesOnly, LeavesCommit, Carries, Commits, DoesLoss, HasJudged, IsLost, LeavesLoss, LeavesOpened, loss_call}
 use Rattle.gm_shelf.specs.declared.shelf.Shelf.{Ghosts as ShelfGhosts}
-use Rattle.gm_shelf.specs.Disk.{IsLawful}
-use Rattle.gm_rules.specs.AbstractCalls.{Call}
-use Rattle.gm_state.specs.declared.intents.Intent.{Intent}
-use Rattle.gm_state.specs.Records.{Records}
-use Rattle.gm_state.specs.World.{World}
-use Rattle.gm_state.specs.Rows.{Tables}
-use Rattle.gm_registry.specs.Registry.{CrashLeaves, CrashLeavesOnly, DiskKept, HasTables, LeavesNothingNew}
-use Rattle.gm_bench.specs.declared.loss.Loss.{Loss}
-use Rattle.gm_bench.specs.Leading.{AllLead}
-use Rattle.gm_bench.specs.Presence.{first_absent}
-use Rattle.gm_bench.specs.Recovering.{Cover, IsAt, IsFound, LeavesOnly}
-use Rattle.gm_bench.specs.Schedule.{LeavesCommit}
-use Rattle.gm_bench.specs.Without.{Carries, Commits, DoesLoss, HasJudged, IsLost, LeavesLoss, LeavesOpened, loss_call}
 use Rattle.gm_bench.proofs.Found.{covered, ready}
 use Rattle.gm_bench.proofs.RegistryLeaves.{leads_in, read_only}
 use Rattle.gm_bench.proofs.TakenUp.{absent_back, leaves_back, moved}

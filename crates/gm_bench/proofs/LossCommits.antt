@@ -1,52 +1,7 @@
 -- The commit of an opening without a provider: the world that was left, or the step by the loss,
 -- whatever image goes with it.
-use Rattle.std.proofs.Common.{◌≡◌, ◌∙◌, inl, inr, ℕ, ◌+◌, ◌&&◌, true, false, List, [], ◌∷◌, map, length, None, Some, refl, sym, ap, subst, subst₂, arith, append-nil, if◌then◌else◌}
-use Rattle.std.specs.Prelude.{IsSome, string_bytes}
-use Rattle.std.specs.List.Sorted.{IsPermutation}
-use Rattle.std.proofs.lemmas.Bool.{cases_Bool}
-use Rattle.std.proofs.lemmas.List.{length-map}
-use Rattle.std.proofs.lemmas.List.Sorted.{IsPermutation-refl, IsPermutation-cons, length_permutation}
-use Rattle.sqlite_trees.specs.declared.store.Store.{Ghosts}
-use Rattle.sqlite.specs.Held.{Held}
-use Rattle.gm_metadata.specs.Images.{Image, Sizes, same_label}
+use Rattle.gm_bench.proofs.Common.{◌≡◌, ◌∙◌, inl, inr, ℕ, ◌+◌, ◌&&◌, true, false, List, [], ◌∷◌, map, length, None, Some, refl, sym, ap, subst, subst₂, arith, append-nil, if◌then◌else◌, IsSome, string_bytes, IsPermutation, cases_Bool, length-map, IsPermutation-refl, IsPermutation-cons, length_permutation, Ghosts, Held, Image, Sizes, same_label, IsLawful, Command, Lost, Intent, Reply, Mirror, Component, words_of, IsOf, names, is_place, mirror_of, Records, members, name, Tables, CommandRow, HoldRecords, answer_row, intent_rows, patch_rows, Has, World, Answered, present, some_there, find_one, found, not_both, provider_at, same_from, same_is, place_from, placed_by, member, reply_to, intents_of, Changed, Makes, changed_by, Plan, CanAnswer, HasPlan, answer, seen_of, every_plan, with_accepted, with_pending, command_row, settled, count_of, Call, HoldState, CrashLeavesOnly, DiskKept, HasTables, MayLeave, change_held, change_intents, change_commands, change_patches, whole, Leads, KeepsClaims, AllLead, Loss, writes_to, dropped, left_to_lay, pending_after, as_left, next_of, HasNext, IsFound, IsStepWithout, LeavesCommit, IsLost, IsNewLoss, loss_call}
 use Rattle.gm_shelf.specs.declared.shelf.Shelf.{Ghosts as ShelfGhosts}
-use Rattle.gm_shelf.specs.Disk.{IsLawful}
-use Rattle.gm_commands.specs.declared.command.Command.{Command}
-use Rattle.gm_commands.specs.declared.command.Command.TheVariants.{Lost}
-use Rattle.gm_state.specs.declared.intents.Intent.{Intent}
-use Rattle.gm_state.specs.declared.intents.Reply.{Reply}
-use Rattle.gm_state.specs.declared.records.Mirror.{Mirror}
-use Rattle.gm_state.specs.declared.records.Component.{Component}
-use Rattle.gm_commands.specs.Commands.{words_of}
-use Rattle.gm_state.specs.Intents.{IsOf, names, is_place}
-use Rattle.gm_state.specs.Lookups.{mirror_of}
-use Rattle.gm_state.specs.Records.{Records, members, name}
-use Rattle.gm_state.specs.Rows.{Tables, CommandRow, HoldRecords, answer_row, intent_rows, patch_rows}
-use Rattle.gm_lists.specs.Ordered.{Has}
-use Rattle.gm_state.specs.World.{World, Answered, present}
-use Rattle.gm_state.proofs.SoundClaims.{some_there}
-use Rattle.gm_lists.proofs.Finding.{find_one, found, not_both}
-use Rattle.gm_state.proofs.FoundRecords.{provider_at}
-use Rattle.gm_lists.proofs.Order.{same_from, same_is}
-use Rattle.gm_state.proofs.Places.{place_from, placed_by}
-use Rattle.gm_state.proofs.TestsTellRules.{member}
-use Rattle.gm_changes.specs.After.{reply_to, intents_of}
-use Rattle.gm_changes.specs.Decides.{Changed, Makes, changed_by}
-use Rattle.gm_rules.specs.Step.{Plan, CanAnswer, HasPlan, answer}
-use Rattle.gm_refusals.specs.WorldFacts.{seen_of}
-use Rattle.gm_rules.proofs.EveryPlan.{every_plan}
-use Rattle.gm_registry.specs.Changes.{with_accepted, with_pending, command_row, settled}
-use Rattle.gm_registry.specs.Replies.{count_of}
-use Rattle.gm_rules.specs.AbstractCalls.{Call}
-use Rattle.gm_rows.specs.ReadableTables.{HoldState}
-use Rattle.gm_registry.specs.Registry.{CrashLeavesOnly, DiskKept, HasTables, MayLeave}
-use Rattle.gm_registry.proofs.Written.{change_held, change_intents, change_commands, change_patches}
-use Rattle.gm_bench.specs.Leading.{whole, Leads, KeepsClaims, AllLead}
-use Rattle.gm_bench.specs.declared.loss.Loss.{Loss}
-use Rattle.gm_bench.specs.Losing.{writes_to, dropped, left_to_lay, pending_after, as_left, next_of, HasNext}
-use Rattle.gm_bench.specs.Recovering.{IsFound}
-use Rattle.gm_bench.specs.Schedule.{IsStepWithout, LeavesCommit}
-use Rattle.gm_bench.specs.Without.{IsLost, IsNewLoss, loss_call}
 use Rattle.gm_bench.proofs.CallAnswers.{as_many as as_many_of}
 use Rattle.gm_bench.proofs.Found.{lead}
 use Rattle.gm_bench.proofs.LossSources.{has_next, next_told}

@@ -1,15 +1,5 @@
 -- The intents that remain, and the words of a loss, as code finds them.
-use Rattle.std.proofs.Common.{◌≡◌, ◌≢◌, ◌∙◌, inl, inr, ℕ, IsTrue, false, not, List, [], ◌∷◌, ◌++◌, Option, Some, None, map, filter, refl, sym, ap, subst, append_assoc, if◌then◌else◌}
-use Rattle.std.specs.Prelude.{IfNone}
-use Rattle.std.proofs.lemmas.List.{append_cancel_left, append_cancel_right}
-use Rattle.std.proofs.lemmas.Bool.{cases_Bool}
-use Rattle.gm_commands.specs.declared.command.Command.TheVariants.{Lost}
-use Rattle.gm_commands.specs.Commands.{words_of}
-use Rattle.gm_state.specs.declared.intents.Intent.{Intent}
-use Rattle.gm_lists.proofs.Finding.{not_both}
-use Rattle.gm_metadata.specs.Labels.{is_label}
-use Rattle.gm_bench.specs.Losing.{writes_to, redirected, remaining}
-use Rattle.gm_bench.specs.Without.{AreOfLoss}
+use Rattle.gm_bench.proofs.Common.{◌≡◌, ◌≢◌, ◌∙◌, inl, inr, ℕ, IsTrue, false, not, List, [], ◌∷◌, ◌++◌, Option, Some, None, map, filter, refl, sym, ap, subst, append_assoc, if◌then◌else◌, IfNone, append_cancel_left, append_cancel_right, cases_Bool, Lost, words_of, Intent, not_both, is_label, writes_to, redirected, remaining, AreOfLoss}
 
 -- those that write elsewhere, each redirected
 pub remaining_is : (p next : List ℕ) (ts : List Intent)

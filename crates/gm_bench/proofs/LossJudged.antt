@@ -1,36 +1,6 @@
 -- What is found of the loss of a component, under a key that is free.
-use Rattle.std.proofs.Common.{◌≡◌, ◌∙◌, ℕ, ◌<◌, ◌≤◌, IsTrue, true, List, [], ◌∷◌, ◌++◌, length, Option, Some, None, refl, sym, ap, subst, arith, true≢false}
-use Rattle.std.specs.Prelude.{IsSome, IsSomeAnd, MatchOption, option_map}
-use Rattle.std.specs.List.{list_all}
-use Rattle.std.proofs.lemmas.Bool.{and_parts}
-use Rattle.gm_commands.specs.declared.command.Command.{Command}
-use Rattle.gm_commands.specs.declared.command.Command.TheVariants.{Lost}
-use Rattle.gm_commands.specs.Commands.{CommandFits, is_key, words_of}
-use Rattle.gm_lists.specs.Ordered.{Has}
-use Rattle.gm_metadata.specs.Images.{Sizes}
-use Rattle.gm_state.specs.declared.intents.Intent.{Intent}
-use Rattle.gm_state.specs.declared.records.Component.{Component}
-use Rattle.gm_state.specs.Lookups.{component_of}
-use Rattle.gm_state.specs.Records.{Records, members}
-use Rattle.gm_metadata.specs.Labels.{is_label}
-use Rattle.gm_commands.proofs.OneCommand.{same_command}
-use Rattle.gm_state.specs.World.{World, Answered, Sound, present}
-use Rattle.gm_refusals.specs.declared.refusals.CallRefusal.TheVariants.{NoKey, KeyTaken, NoRoom, ByRules}
-use Rattle.gm_refusals.specs.declared.refusals.Refusal.{Refusal}
-use Rattle.gm_refusals.specs.declared.refusals.Refusal.TheVariants.{NotMember}
-use Rattle.gm_refusals.specs.Applies.{IsLeast}
-use Rattle.gm_refusals.specs.Refusals.{number_of}
-use Rattle.gm_refusals.specs.WorldFacts.{seen_of}
-use Rattle.gm_changes.specs.After.{after, metas}
-use Rattle.gm_changes.specs.Decides.{Changed, Makes, changed_by}
-use Rattle.gm_rules.specs.Step.{Bad}
-use Rattle.gm_bench.specs.declared.loss.Judged.{Judged}
-use Rattle.gm_bench.specs.declared.loss.Judged.TheVariants.{Kept, Refused, New}
-use Rattle.gm_bench.specs.declared.loss.LossRefusal.{LossRefusal}
-use Rattle.gm_bench.specs.declared.loss.LossRefusal.TheVariants.{ByCall, OnlySource, OnShelf}
-use Rattle.gm_bench.specs.Losing.{next_of, remaining}
+use Rattle.gm_bench.proofs.Common.{◌≡◌, ◌∙◌, ℕ, ◌<◌, ◌≤◌, IsTrue, true, List, [], ◌∷◌, ◌++◌, length, Option, Some, None, refl, sym, ap, subst, arith, true≢false, IsSome, IsSomeAnd, MatchOption, option_map, list_all, and_parts, Command, Lost, CommandFits, is_key, words_of, Has, Sizes, Intent, Component, component_of, Records, members, is_label, same_command, World, Answered, Sound, present, NoKey, KeyTaken, NoRoom, ByRules, Refusal, NotMember, IsLeast, number_of, seen_of, after, metas, Changed, Makes, changed_by, Bad, Judged, Kept, Refused, New, LossRefusal, ByCall, OnlySource, OnShelf, next_of, remaining, AreOfLoss, IsBadLoss, IsJudged, IsKeptLoss, IsRedirected, loss_of, number_of_loss}
 use Rattle.gm_bench.proofs.CallAnswers.{at_least_five}
-use Rattle.gm_bench.specs.Without.{AreOfLoss, IsBadLoss, IsJudged, IsKeptLoss, IsRedirected, loss_of, number_of_loss}
 use Rattle.gm_bench.proofs.LossRules.{listed_low}
 
 none_is : (o : Option (List ℕ)) → o ≡ None → IsSome o → ⊥

@@ -1,10 +1,5 @@
 -- Places that intents name: for what is pending after a loss.
-use Rattle.std.proofs.Common.{◌≡◌, ℕ, ◌+◌, ◌-◌, ◌<◌, ◌≤◌, ◌&&◌, ◌||◌, Bool, true, false, refl, arith, List, Option, Some, None, nat_le, nat_lt, eqb-true, eq-eqb}
-use Rattle.std.proofs.lemmas.Bool.{and_parts}
-use Rattle.std.proofs.lemmas.Bool.Decides.{nat_tests}
-use Rattle.gm_metadata.specs.Images.{same_label}
-use Rattle.gm_state.specs.Intents.{is_last}
-use Rattle.gm_lists.proofs.Order.{same_is}
+use Rattle.gm_bench.proofs.Common.{◌≡◌, ℕ, ◌+◌, ◌-◌, ◌<◌, ◌≤◌, ◌&&◌, ◌||◌, Bool, true, false, refl, arith, List, Option, Some, None, nat_le, nat_lt, eqb-true, eq-eqb, and_parts, nat_tests, same_label, is_last, same_is}
 
 pub or_none : (a b : Bool) → a ≡ false → b ≡ false → (a || b) ≡ false
 or_none a b e f = rw (e, f) refl

@@ -1,32 +1,6 @@
 -- What is pending after a loss can be read again.
-use Rattle.std.proofs.Common.{◌≡◌, ◌≢◌, ◌∙◌, ◌⊎◌, inl, inr, ⊎_elim, ℕ, ◌+◌, ◌-◌, ◌&&◌, ◌==◌, eqb-true, true, false, not, refl, sym, ap, subst, arith, List, [], ◌∷◌, filter, length, Option, Some, None}
-use Rattle.std.specs.Prelude.{IsSomeAnd}
-use Rattle.std.specs.List.{list_any}
-use Rattle.std.proofs.lemmas.Bool.{cases_Bool, and_parts}
-use Rattle.gm_metadata.specs.Images.{same_label}
-use Rattle.gm_commands.specs.declared.command.Command.TheVariants.{Lost}
-use Rattle.gm_state.specs.declared.intents.Intent.{Intent}
-use Rattle.gm_state.specs.declared.intents.Intent.TheVariants.{Meta, Clear, Copy, Dirty, Patch}
-use Rattle.gm_state.specs.declared.records.Mirror.{Mirror}
-use Rattle.gm_state.specs.declared.records.Component.{Component}
-use Rattle.gm_state.specs.declared.records.Disk.TheVariants.{InSync}
-use Rattle.gm_lists.specs.Ordered.{Has, put}
-use Rattle.gm_state.specs.Records.{Records, IsState, members, name, provider}
-use Rattle.gm_state.specs.Lookups.{component_of, mirror_of}
-use Rattle.gm_state.specs.Intents.{IsOf}
-use Rattle.gm_state.specs.Readable.{is_copy, is_patch, IsCopyWithin, IsPatchWithin, IsReadable, IsOfRange, AreOfOnePatch, AreReadable}
-use Rattle.gm_state.specs.World.{World, Sound}
-use Rattle.gm_lists.proofs.Finding.{not_both, option_cases, found, found_none, find_none, find_one, some_any}
-use Rattle.gm_lists.proofs.Order.{same_from, same_is, differ, same_tells}
+use Rattle.gm_bench.proofs.Common.{◌≡◌, ◌≢◌, ◌∙◌, ◌⊎◌, inl, inr, ⊎_elim, ℕ, ◌+◌, ◌-◌, ◌&&◌, ◌==◌, eqb-true, true, false, not, refl, sym, ap, subst, arith, List, [], ◌∷◌, filter, length, Option, Some, None, IsSomeAnd, list_any, cases_Bool, and_parts, same_label, Lost, Intent, Meta, Clear, Copy, Dirty, Patch, Mirror, Component, InSync, Has, put, Records, IsState, members, name, provider, component_of, mirror_of, IsOf, is_copy, is_patch, IsCopyWithin, IsPatchWithin, IsReadable, IsOfRange, AreOfOnePatch, AreReadable, World, Sound, not_both, option_cases, found, found_none, find_none, find_one, some_any, same_from, same_is, differ, same_tells, without_patch, member, one, put_there, put_or, put_stays, Has-filter, filter-Has, metas, Plan, writes_to, redirected, remaining, left_to_lay, pending_after, HasNext, Has-append}
 use Rattle.gm_state.proofs.CopyFound.{component_named}
-use Rattle.gm_state.proofs.PatchFound.{without_patch}
-use Rattle.gm_state.proofs.TestsTellRules.{member}
-use Rattle.gm_lists.proofs.Putting.{one, put_there, put_or, put_stays}
-use Rattle.gm_lists.proofs.Lists.{Has-filter, filter-Has}
-use Rattle.gm_changes.specs.After.{metas}
-use Rattle.gm_rules.specs.Step.{Plan}
-use Rattle.gm_bench.specs.Losing.{writes_to, redirected, remaining, left_to_lay, pending_after, HasNext}
-use Rattle.gm_state.proofs.Places.{Has-append}
 use Rattle.gm_bench.proofs.LossRemaining.{has_remaining, ordered_after, unpatched_after, uncopied_after, range_stays, one_copy_after, has_meta}
 
 pub apart_from : (a b : List ℕ) → same_label a b ≡ false → a ≢ b

@@ -1,30 +1,5 @@
 -- What is pending after a loss that the rules allow can be read again, whatever the images hold.
-use Rattle.std.proofs.Common.{◌≡◌, ◌∙◌, [], ◌∷◌, ◌++◌, List, ℕ, IfOk, Result, Ok, Err, Some, sym, ap, subst, subst₂}
-use Rattle.gm_metadata.specs.Images.{Sizes, same_label}
-use Rattle.gm_commands.specs.declared.command.Command.{Command}
-use Rattle.gm_commands.specs.declared.command.Command.TheVariants.{Lost}
-use Rattle.gm_commands.specs.Commands.{CommandFits}
-use Rattle.gm_lists.proofs.Finding.{find_one, found}
-use Rattle.gm_state.specs.declared.intents.Intent.{Intent}
-use Rattle.gm_state.specs.declared.records.Component.{Component}
-use Rattle.gm_state.specs.declared.records.Mirror.{Mirror}
-use Rattle.gm_state.specs.Intents.{IsOf}
-use Rattle.gm_state.specs.Lookups.{component_of, mirror_of}
-use Rattle.gm_state.specs.Readable.{AreReadable}
-use Rattle.gm_state.specs.Records.{Records, IsState, members, name}
-use Rattle.gm_state.specs.World.{World, Sound}
-use Rattle.gm_state.proofs.TestsTellRules.{member}
-use Rattle.gm_refusals.specs.declared.facts.Fact.{Fact}
-use Rattle.gm_refusals.specs.declared.refusals.Refusal.{Refusal}
-use Rattle.gm_refusals.specs.Seen.{seen_in}
-use Rattle.gm_changes.specs.After.{intents_of, metas}
-use Rattle.gm_changes.specs.Decides.{Changed, Decides, Makes, changed_by}
-use Rattle.gm_rules.specs.Step.{HasPlan}
-use Rattle.gm_rules.proofs.StandIn.{key, plan, planned, sound, stand_in}
-use Rattle.gm_bench.specs.declared.loss.Judged.{Judged}
-use Rattle.gm_bench.specs.declared.loss.Judged.TheVariants.{Kept, Refused, New}
-use Rattle.gm_bench.specs.Losing.{HasNext, left_to_lay, next_of, pending_after, remaining}
-use Rattle.gm_bench.specs.Without.{IsRedirected, StaysReadable, StayReadableBehind}
+use Rattle.gm_bench.proofs.Common.{◌≡◌, ◌∙◌, [], ◌∷◌, ◌++◌, List, ℕ, IfOk, Result, Ok, Err, Some, sym, ap, subst, subst₂, Sizes, same_label, Command, Lost, CommandFits, find_one, found, Intent, Component, Mirror, IsOf, component_of, mirror_of, AreReadable, Records, IsState, members, name, World, Sound, member, Fact, Refusal, seen_in, intents_of, metas, Changed, Decides, Makes, changed_by, HasPlan, key, plan, planned, sound, stand_in, Judged, Kept, Refused, New, HasNext, left_to_lay, next_of, pending_after, remaining, IsRedirected, StaysReadable, StayReadableBehind}
 use Rattle.gm_bench.proofs.LossReadable.{IsLoss, are_readable, home, loss_of}
 use Rattle.gm_bench.proofs.LossSources.{has_next, next_told}
 

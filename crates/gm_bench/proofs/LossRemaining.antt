@@ -1,19 +1,5 @@
 -- What stays of the pending intents.
-use Rattle.std.proofs.Common.{◌≡◌, ◌≢◌, ◌∙◌, ◌⊎◌, inl, inr, ⊎_elim, ℕ, ◌≤◌, ◌||◌, Bool, true, false, refl, sym, ap, subst, arith, List, [], ◌∷◌, ◌++◌, length, filter}
-use Rattle.std.specs.List.{list_any}
-use Rattle.std.proofs.lemmas.Bool.{cases_Bool, and_parts, or_left, or_parts, or_right}
-use Rattle.gm_metadata.specs.Images.{Sizes, same_label}
-use Rattle.gm_state.specs.declared.intents.Intent.{Intent}
-use Rattle.gm_state.specs.declared.intents.Intent.TheVariants.{Meta, Clear, Copy, Dirty, Patch}
-use Rattle.gm_state.specs.declared.records.Component.{Component}
-use Rattle.gm_lists.specs.Ordered.{Has}
-use Rattle.gm_state.specs.Intents.{is_last, is_dirty_of, is_meta_of, copies, names, any_copies, is_place}
-use Rattle.gm_state.specs.Readable.{is_copy, is_patch, is_fill_of, IsOfRange, StandsBetween, AreOrdered, AreOrderedFrom}
-use Rattle.gm_lists.proofs.Finding.{not_both}
-use Rattle.gm_lists.proofs.Order.{same_from, same_is, differ}
-use Rattle.gm_state.proofs.Places.{copied_by, or_true, place_from, placed_by}
-use Rattle.gm_changes.specs.After.{metas}
-use Rattle.gm_bench.specs.Losing.{writes_to, redirected, remaining}
+use Rattle.gm_bench.proofs.Common.{◌≡◌, ◌≢◌, ◌∙◌, ◌⊎◌, inl, inr, ⊎_elim, ℕ, ◌≤◌, ◌||◌, Bool, true, false, refl, sym, ap, subst, arith, List, [], ◌∷◌, ◌++◌, length, filter, list_any, cases_Bool, and_parts, or_left, or_parts, or_right, Sizes, same_label, Intent, Meta, Clear, Copy, Dirty, Patch, Component, Has, is_last, is_dirty_of, is_meta_of, copies, names, any_copies, is_place, is_copy, is_patch, is_fill_of, IsOfRange, StandsBetween, AreOrdered, AreOrderedFrom, not_both, same_from, same_is, differ, copied_by, or_true, place_from, placed_by, metas, writes_to, redirected, remaining}
 use Rattle.gm_bench.proofs.LossLists.{or_none}
 
 module _ (p next : List ℕ) where

@@ -1,22 +1,6 @@
 -- What the rules say of a loss hangs on the sizes alone of what is seen.
-use Rattle.std.proofs.Common.{◌≡◌, ◌∙◌, inl, inr, ℕ, ◌≤◌, true, not, List, [], ◌∷◌, IfOk, Result, Ok, Err, refl, sym, ap, arith}
-use Rattle.gm_lists.specs.Ordered.{Has}
-use Rattle.gm_lists.proofs.Finding.{any_agree}
-use Rattle.gm_lists.proofs.Lists.{map-Has}
+use Rattle.gm_bench.proofs.Common.{◌≡◌, ◌∙◌, inl, inr, ℕ, ◌≤◌, true, not, List, [], ◌∷◌, IfOk, Result, Ok, Err, refl, sym, ap, arith, Has, any_agree, map-Has, Command, Lost, Component, Records, IsState, provider, Refusal, Absent, applies, awaited, number_of, is_listed, Seen, has_size, seen_in, needed_by, Changed, Decides, changed_by, CommandFits, Fact}
 use Rattle.gm_refusals.proofs.Listed.{listed}
-use Rattle.gm_commands.specs.declared.command.Command.{Command}
-use Rattle.gm_commands.specs.declared.command.Command.TheVariants.{Lost}
-use Rattle.gm_state.specs.declared.records.Component.{Component}
-use Rattle.gm_state.specs.Records.{Records, IsState, provider}
-use Rattle.gm_refusals.specs.declared.refusals.Refusal.{Refusal}
-use Rattle.gm_refusals.specs.declared.refusals.Refusal.TheVariants.{Absent}
-use Rattle.gm_refusals.specs.Applies.{applies, awaited}
-use Rattle.gm_refusals.specs.Refusals.{number_of, is_listed}
-use Rattle.gm_refusals.specs.Seen.{Seen, has_size, seen_in}
-use Rattle.gm_refusals.specs.WorldFacts.{needed_by}
-use Rattle.gm_changes.specs.Decides.{Changed, Decides, changed_by}
-use Rattle.gm_commands.specs.Commands.{CommandFits}
-use Rattle.gm_refusals.specs.declared.facts.Fact.{Fact}
 use Rattle.gm_bench.proofs.PlannedAlone.{planned_state}
 
 -- a loss lists no refusal beyond that of the last genid

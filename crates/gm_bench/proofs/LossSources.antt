@@ -1,28 +1,7 @@
 -- The next source of a copy whose source is lost lends to its target.
-use Rattle.std.proofs.Common.{◌≡◌, ◌≢◌, ◌∙◌, inl, inr, ℕ, ◌≤◌, ◌&&◌, true, not, refl, sym, ap, subst, arith, List, [], ◌∷◌, length, filter, Some, None}
-use Rattle.std.specs.List.{list_any}
-use Rattle.std.specs.Prelude.{option_map}
-use Rattle.std.proofs.lemmas.Bool.{and_parts}
-use Rattle.gm_metadata.specs.Images.{same_label}
-use Rattle.gm_state.specs.declared.intents.Intent.{Intent}
-use Rattle.gm_state.specs.declared.intents.Intent.TheVariants.{Meta, Clear, Copy, Dirty, Patch}
+use Rattle.gm_bench.proofs.Common.{◌≡◌, ◌≢◌, ◌∙◌, inl, inr, ℕ, ◌≤◌, ◌&&◌, true, not, refl, sym, ap, subst, arith, List, [], ◌∷◌, length, filter, Some, None, list_any, option_map, and_parts, same_label, Intent, Meta, Clear, Copy, Dirty, Patch, InSync, Inactive, Copying, Mirror, Component, component_of, IsCopyWithin, AreReadable, is_copy, Records, members, name, provider, lends_to, goes_first, source_among, source_of, Has, World, Sound, not_both, option_cases, found, find_one, same_from, member, one, filter-Has, HasNext, next_of}
 use Rattle.gm_state.specs.declared.records.Disk.{Disk}
-use Rattle.gm_state.specs.declared.records.Disk.TheVariants.{InSync, Inactive, Copying}
-use Rattle.gm_state.specs.declared.records.Mirror.{Mirror}
-use Rattle.gm_state.specs.declared.records.Component.{Component}
 use Rattle.gm_state.specs.Disks.{is_active}
-use Rattle.gm_state.specs.Lookups.{component_of}
-use Rattle.gm_state.specs.Readable.{IsCopyWithin, AreReadable, is_copy}
-use Rattle.gm_state.specs.Records.{Records, members, name, provider}
-use Rattle.gm_state.specs.Sources.{lends_to, goes_first, source_among, source_of}
-use Rattle.gm_lists.specs.Ordered.{Has}
-use Rattle.gm_state.specs.World.{World, Sound}
-use Rattle.gm_lists.proofs.Finding.{not_both, option_cases, found, find_one}
-use Rattle.gm_lists.proofs.Order.{same_from}
-use Rattle.gm_state.proofs.TestsTellRules.{member}
-use Rattle.gm_lists.proofs.Putting.{one}
-use Rattle.gm_lists.proofs.Lists.{filter-Has}
-use Rattle.gm_bench.specs.Losing.{HasNext, next_of}
 use Rattle.gm_bench.proofs.LossReadable.{IsLoss, home}
 
 in_sync : (d : Disk) → is_active d ≡ true → d ≡ InSync

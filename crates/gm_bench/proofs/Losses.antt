@@ -1,42 +1,10 @@
 -- What is pending after a loss leads, from the very image, to the world of the loss, and keeps the
 -- claims of the world before the first command.
-use Rattle.std.proofs.Common.{◌≡◌, ◌≢◌, ◌∙◌, inl, inr, ⊎_elim, ℕ, ◌+◌, ◌-◌, ◌*◌, ◌/◌, ◌<◌, ◌≤◌, ◌^◌, ◌==◌, ◌&&◌, Bool, true, false, IsTrue, refl, sym, ap, subst, arith, List, [], find, Option, Some, None, if◌then◌else◌}
-use Rattle.std.specs.List.{list_any}
-use Rattle.std.specs.List.Sorted.{IsPermutation}
-use Rattle.std.specs.Prelude.{IsSome, IsSomeAnd, IfSome, slice_get}
-use Rattle.std.proofs.lemmas.Bool.{cases_Bool}
+use Rattle.gm_bench.proofs.Common.{◌≡◌, ◌≢◌, ◌∙◌, inl, inr, ⊎_elim, ℕ, ◌+◌, ◌-◌, ◌*◌, ◌/◌, ◌<◌, ◌≤◌, ◌^◌, ◌==◌, ◌&&◌, Bool, true, false, IsTrue, refl, sym, ap, subst, arith, List, [], find, Option, Some, None, if◌then◌else◌, list_any, IsPermutation, IsSome, IsSomeAnd, IfSome, slice_get, cases_Bool, Image, Sizes, same_label, zeros, is_label, encoded, IsMetadata, Bears, Metadata, Intent, Meta, Clear, Copy, Dirty, Patch, InSync, Inactive, Copying, Mirror, Component, Has, Records, IsState, IsMirror, members, held_by, held_of, name, provider, Tables, HoldRecords, intent_rows, patch_rows, component_of, mirror_of, metadata, IsOf, AreThere, IsAtHand, is_last, copies, names, is_place, IsMeta, Says, AllSay, Agrees, is_patch, IsCopyWithin, IsPatchWithin, IsReadable, AreReadable, World, Sound, Below, Claims, CopiesData, claimed, has_syncid, data_at, bears_one, any_from, not_both, option_cases, found, found_none, find_none, find_one, Has-append_left, Has-append_right, same_from, same_is, same_tells, differ, no_dirt_left, Has-append, last_named, placed_by, copies_from, place_from, member, one, filter-Has, metas, Leads, KeepsClaims, ClaimsOf, EachNewClaims, writes_to, redirected, remaining, left_to_lay, pending_after, as_left, HasNext}
 use Rattle.gm_metadata.specs.declared.version.Version.TheVariants.{Four}
 use Rattle.gm_metadata.proofs.Laid.{named, encoded_is_full}
-use Rattle.gm_metadata.specs.Images.{Image, Sizes, same_label, zeros}
-use Rattle.gm_metadata.specs.Labels.{is_label}
-use Rattle.gm_metadata.specs.Reading.{encoded}
-use Rattle.gm_metadata.specs.Sector.{IsMetadata, Bears}
-use Rattle.gm_metadata.specs.declared.metadata.Metadata.{Metadata}
-use Rattle.gm_state.specs.declared.intents.Intent.{Intent}
-use Rattle.gm_state.specs.declared.intents.Intent.TheVariants.{Meta, Clear, Copy, Dirty, Patch}
 use Rattle.gm_state.specs.declared.records.Disk.{Disk}
-use Rattle.gm_state.specs.declared.records.Disk.TheVariants.{InSync, Inactive, Copying}
-use Rattle.gm_state.specs.declared.records.Mirror.{Mirror}
-use Rattle.gm_state.specs.declared.records.Component.{Component}
-use Rattle.gm_lists.specs.Ordered.{Has}
-use Rattle.gm_state.specs.Records.{Records, IsState, IsMirror, members, held_by, held_of, name, provider}
-use Rattle.gm_state.specs.Rows.{Tables, HoldRecords, intent_rows, patch_rows}
-use Rattle.gm_state.specs.Lookups.{component_of, mirror_of, metadata}
-use Rattle.gm_state.specs.Intents.{IsOf, AreThere, IsAtHand, is_last, copies, names, is_place, IsMeta, Says, AllSay, Agrees}
-use Rattle.gm_state.specs.Readable.{is_patch, IsCopyWithin, IsPatchWithin, IsReadable, AreReadable}
-use Rattle.gm_state.specs.World.{World, Sound, Below, Claims, CopiesData, claimed, has_syncid, data_at}
-use Rattle.gm_state.proofs.EncodedSectors.{bears_one}
-use Rattle.gm_lists.proofs.Finding.{any_from, not_both, option_cases, found, found_none, find_none, find_one, Has-append_left, Has-append_right}
-use Rattle.gm_lists.proofs.Order.{same_from, same_is, same_tells, differ}
-use Rattle.gm_state.proofs.PatchFound.{no_dirt_left}
-use Rattle.gm_state.proofs.Places.{Has-append, last_named, placed_by, copies_from, place_from}
-use Rattle.gm_state.proofs.TestsTellRules.{member}
-use Rattle.gm_lists.proofs.Putting.{one}
-use Rattle.gm_lists.proofs.Lists.{filter-Has}
-use Rattle.gm_changes.specs.After.{metas}
 use Rattle.gm_state.proofs.ReadableIntents.{lent as lends_on}
-use Rattle.gm_bench.specs.Leading.{Leads, KeepsClaims, ClaimsOf, EachNewClaims}
-use Rattle.gm_bench.specs.Losing.{writes_to, redirected, remaining, left_to_lay, pending_after, as_left, HasNext}
 use Rattle.gm_bench.proofs.LossLists.{last_is, last_at, range_of}
 use Rattle.gm_bench.proofs.LossReadable.{IsLoss, apart_from, home, left_or_none, stays_home, are_readable}
 use Rattle.gm_bench.proofs.LossRemaining.{has_remaining, same_names, place_stays, copied_before, has_meta, meta_has, any_copies_metas, remaining_has}

@@ -1,15 +1,5 @@
 -- Worlds whose providers went away or came back.
-use Rattle.std.proofs.Common.{◌≡◌, ◌∙◌, ◌⊎◌, inl, inr, ℕ, Bool, Option, Some, None, List, [], ◌∷◌, refl, sym, subst, if◌then◌else◌}
-use Rattle.std.specs.Prelude.{is_some}
-use Rattle.gm_metadata.specs.Images.{Image, Sizes}
-use Rattle.gm_state.specs.declared.intents.Intent.{Intent}
-use Rattle.gm_state.specs.declared.intents.Reply.{Reply}
-use Rattle.gm_state.specs.Rows.{Tables}
-use Rattle.gm_state.specs.World.{World, present}
-use Rattle.gm_rules.specs.Step.{Step}
-use Rattle.gm_rules.specs.AbstractCalls.{Call}
-use Rattle.gm_bench.specs.Leading.{AreAmong, Leads, KeepsClaims}
-use Rattle.gm_bench.specs.Schedule.{Entry, Handed_in, Without, IsButMoved, IsStepTo, IsStepWithout, Reached, IsLastStep, ArePending}
+use Rattle.gm_bench.proofs.Common.{◌≡◌, ◌∙◌, ◌⊎◌, inl, inr, ℕ, Bool, Option, Some, None, List, [], ◌∷◌, refl, sym, subst, if◌then◌else◌, is_some, Image, Sizes, Intent, Reply, Tables, World, present, Step, Call, AreAmong, Leads, KeepsClaims, Entry, Handed_in, Without, IsButMoved, IsStepTo, IsStepWithout, Reached, IsLastStep, ArePending}
 
 -- the world in which these providers are there
 abbrev pub with_there : World → (List ℕ → Bool) → World

@@ -1,16 +1,5 @@
 -- The world that a schedule starts in is sound, and without rows.
-use Rattle.std.proofs.Common.{◌≡◌, List, [], length, map, sym, ap, subst, arith}
-use Rattle.std.specs.List.Sorted.{IsPermutation}
-use Rattle.std.proofs.lemmas.List.Sorted.{IsPermutation-refl}
-use Rattle.gm_metadata.specs.Images.{Sizes}
-use Rattle.gm_state.specs.declared.records.Mirror.{Mirror}
-use Rattle.gm_state.specs.declared.records.Component.{Component}
-use Rattle.gm_state.specs.Records.{IsState, name, provider}
-use Rattle.gm_state.specs.Rows.{HoldRecords, mirror_row, component_row, answer_row}
-use Rattle.gm_lists.specs.Ordered.{Has, Ascends}
-use Rattle.gm_state.specs.World.{World, Answered, Sound, AreAnswers, AreNumbered}
-use Rattle.gm_rows.specs.Tables.{no_tables}
-use Rattle.gm_bench.specs.Schedule.{IsNew}
+use Rattle.gm_bench.proofs.Common.{◌≡◌, List, [], length, map, sym, ap, subst, arith, IsPermutation, IsPermutation-refl, Sizes, Mirror, Component, IsState, name, provider, HoldRecords, mirror_row, component_row, answer_row, Has, Ascends, World, Answered, Sound, AreAnswers, AreNumbered, no_tables, IsNew}
 
 no_mirror : (all : Sizes) (w : World) → IsNew all w → (m : Mirror) → Has w.state.mirrors m → ⊥
 no_mirror all w new m h = subst (λ (ms : List Mirror). Has ms m) new.mirrors h

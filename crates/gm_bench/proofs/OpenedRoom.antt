@@ -1,17 +1,5 @@
 -- What room for rows a registry has that was opened.
-use Rattle.std.proofs.Common.{◌≡◌, ◌∙◌, inl, inr, Ok, List, [], map, sym, subst, arith}
-use Rattle.std.proofs.lemmas.List.{length-map, nil_from_length}
-use Rattle.std.specs.List.Sorted.{IsPermutation}
-use Rattle.std.proofs.lemmas.List.Sorted.{length_permutation}
-use Rattle.sqlite.specs.Effect.{Database}
-use Rattle.sqlite.specs.Held.{Held}
-use Rattle.sqlite_trees.specs.declared.store.Store.{Ghosts}
-use Rattle.gm_state.specs.Rows.{Tables}
-use Rattle.gm_rows.specs.Tables.{no_tables}
-use Rattle.gm_registry.specs.Fitting.{HasRoom}
-use Rattle.gm_registry.specs.Opens.{IsStored, Opens}
-use Rattle.gm_registry.specs.Registry.{DiskKept, HasTables, seen, stored}
-use Rattle.gm_bench.specs.Calls.{most_rows}
+use Rattle.gm_bench.proofs.Common.{◌≡◌, ◌∙◌, inl, inr, Ok, List, [], map, sym, subst, arith, length-map, nil_from_length, IsPermutation, length_permutation, Database, Held, Ghosts, Tables, no_tables, HasRoom, IsStored, Opens, DiskKept, HasTables, seen, stored, most_rows}
 
 -- a table of no records has no rows
 none_kept : {A B : Type 0} (part : A → B) (rows : List A) → IsPermutation [] (map part rows)

@@ -1,21 +1,5 @@
 -- A command's part of the records says what its intents need.
-use Rattle.std.proofs.Common.{◌≡◌, ◌∙◌, ℕ, true, List, Option, Some, None, refl, sym, ap, subst}
-use Rattle.gm_commands.specs.declared.command.Command.{Command}
-use Rattle.gm_state.specs.declared.intents.Intent.{Intent}
-use Rattle.gm_state.specs.declared.intents.Intent.TheVariants.{Meta}
-use Rattle.gm_state.specs.declared.records.Component.{Component}
-use Rattle.gm_state.specs.Intents.{IsOf}
-use Rattle.gm_state.specs.Records.{Records, IsState, provider}
-use Rattle.gm_lists.specs.Ordered.{Has}
-use Rattle.gm_lists.proofs.Order.{same_is}
-use Rattle.gm_state.proofs.TestsTellRules.{member}
-use Rattle.gm_lists.proofs.Putting.{one}
-use Rattle.gm_lists.proofs.Lists.{Has-filter}
-use Rattle.gm_refusals.specs.Applies.{name_of, is_member_of}
-use Rattle.gm_changes.specs.Decides.{Changed, changed_by}
-use Rattle.gm_changes.specs.PartChange.{LeavesPart}
-use Rattle.gm_rules.specs.Step.{IsOwn}
-use Rattle.gm_bench.specs.Recovering.{Cover}
+use Rattle.gm_bench.proofs.Common.{◌≡◌, ◌∙◌, ℕ, true, List, Option, Some, None, refl, sym, ap, subst, Command, Intent, Meta, Component, IsOf, Records, IsState, provider, Has, same_is, member, one, Has-filter, name_of, is_member_of, Changed, changed_by, LeavesPart, IsOwn, Cover}
 
 -- a component of the mirror that the command names is of that name
 named_by : (o : Option (List ℕ)) (k : Component) → is_member_of o k ≡ true

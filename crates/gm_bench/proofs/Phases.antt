@@ -1,19 +1,8 @@
 -- Which phase a bench is in that may be asked something, and isn't in the phase for it.
-use Rattle.std.proofs.Common.{◌≡◌, ◌∙◌, inl, inr, ℕ, refl, sym, ap, subst}
-use Rattle.std.specs.Prelude.{Result, Ok, Err, IsErrOf, OnErr, OnOk}
-use Rattle.gm_state.specs.declared.intents.Reply.{Reply}
-use Rattle.gm_bench.specs.declared.answer.Work.{Work}
-use Rattle.gm_bench.specs.declared.phase.Progress.{Progress}
-use Rattle.gm_bench.specs.declared.phase.Progress.TheVariants.{Ready, Pending, Applied, Failed}
-use Rattle.gm_bench.specs.declared.answer.Accepted.{Accepted}
+use Rattle.gm_bench.proofs.Common.{◌≡◌, ◌∙◌, inl, inr, ℕ, refl, sym, ap, subst, Result, Ok, Err, IsErrOf, OnErr, OnOk, Reply, Work, Progress, Ready, Pending, Applied, Failed, Accepted, Answer, Done, Repeated, Sizes, IsWith, IsWorkAtHand, AreAtHand, IsUndone, TakesCommands, TakesNext, answer_of, phase_carried, phase_of, progress_after}
 use Rattle.gm_bench.specs.declared.answer.Accepted.TheVariants as accepted
-use Rattle.gm_bench.specs.declared.answer.Answer.{Answer}
-use Rattle.gm_bench.specs.declared.answer.Answer.TheVariants.{Done, Repeated, Refused}
+use Rattle.gm_bench.specs.declared.answer.Answer.TheVariants.{Refused}
 use Rattle.gm_bench.specs.declared.phase.Phase.TheVariants as phase
-use Rattle.gm_metadata.specs.Images.{Sizes}
-use Rattle.gm_bench.specs.Planning.{IsWith, IsWorkAtHand}
-use Rattle.gm_bench.specs.Presence.{AreAtHand}
-use Rattle.gm_bench.specs.Phases.{IsUndone, TakesCommands, TakesNext, answer_of, phase_carried, phase_of, progress_after}
 
 -- a bench that takes a command and didn't fail is at rest
 pub takes_ready : (p : Progress) → TakesCommands p → (p ≡ Failed → ⊥) → p ≡ Ready

@@ -1,24 +1,6 @@
 -- What is planned of a part by itself: it is at hand, and leaves a state.
-use Rattle.std.proofs.Common.{◌≡◌, ◌∙◌, ◌≤◌, ℕ, List, length, sym, subst, arith}
-use Rattle.gm_metadata.specs.Images.{Sizes}
-use Rattle.gm_commands.specs.declared.command.Command.{Command}
-use Rattle.gm_commands.specs.Commands.{CommandFits}
-use Rattle.gm_state.specs.declared.intents.Intent.{Intent}
-use Rattle.gm_state.specs.Records.{Records, IsState}
-use Rattle.gm_lists.specs.Ordered.{Has}
-use Rattle.gm_lists.proofs.Putting.{length-filter_le}
-use Rattle.gm_refusals.specs.declared.facts.Fact.{Fact}
-use Rattle.gm_refusals.specs.Facts.{size_in}
-use Rattle.gm_refusals.specs.PartOf.{is_asked, part_of}
-use Rattle.gm_refusals.specs.Seen.{seen_in}
-use Rattle.gm_refusals.proofs.PartAgrees.{is_state}
-use Rattle.gm_changes.specs.Decides.{Changed, Makes, changed_by}
+use Rattle.gm_bench.proofs.Common.{◌≡◌, ◌∙◌, ◌≤◌, ℕ, List, length, sym, subst, arith, Sizes, Command, CommandFits, Intent, Records, IsState, Has, length-filter_le, Fact, size_in, is_asked, part_of, seen_in, is_state, Changed, Makes, changed_by, IsPartFor, IsItself, hand_moves, hand_told, state_told, AreAtHand, TellSizes}
 use Rattle.gm_registry.specs.declared.part.Part.{Part}
-use Rattle.gm_registry.specs.Parts.{IsPartFor}
-use Rattle.gm_rules.specs.Itself.{IsItself}
-use Rattle.gm_rules.proofs.StandIn.{hand_moves, hand_told, state_told}
-use Rattle.gm_bench.specs.Presence.{AreAtHand}
-use Rattle.gm_bench.specs.ShelfFacts.{TellSizes}
 
 module _ (part : Records) (facts : List Fact) (c : Command) (ch : Changed) (state : IsState part)
     (fits : CommandFits c) (makes : Makes part (seen_in facts) c ch) where

@@ -1,25 +1,6 @@
 -- If no image is lacking, the intents have what they need.
-use Rattle.std.proofs.Common.{◌≡◌, ◌∙◌, inl, inr, ℕ, ◌≤◌, ◌<◌, true, false, ltb-true, eqb-true, List, [], ◌∷◌, Option, Some, None, not, refl, sym, ap, subst, arith, true≢false}
-use Rattle.std.specs.Prelude.{IsSomeAnd}
-use Rattle.std.specs.List.{flat_map}
-use Rattle.std.specs.Option.{option_or}
-use Rattle.std.proofs.lemmas.Bool.{not-false}
+use Rattle.gm_bench.proofs.Common.{◌≡◌, ◌∙◌, inl, inr, ℕ, ◌≤◌, ◌<◌, true, false, ltb-true, eqb-true, List, [], ◌∷◌, Option, Some, None, not, refl, sym, ap, subst, arith, true≢false, IsSomeAnd, flat_map, option_or, not-false, Sizes, same_label, Intent, Meta, Clear, Copy, Dirty, Patch, Mirror, Component, IsOf, IsAtHand, component_of, IsCopyWithin, IsPatchWithin, IsReadable, Records, IsState, members, provider, Has, find_one, found, found_none, Has-append_left, Has-append_right, same_from, filter-Has, member, serves, is_present, absent_among, providers_in, first_absent}
 use Rattle.std.proofs.lemmas.List.Folds.{find-append}
-use Rattle.gm_metadata.specs.Images.{Sizes, same_label}
-use Rattle.gm_state.specs.declared.intents.Intent.{Intent}
-use Rattle.gm_state.specs.declared.intents.Intent.TheVariants.{Meta, Clear, Copy, Dirty, Patch}
-use Rattle.gm_state.specs.declared.records.Mirror.{Mirror}
-use Rattle.gm_state.specs.declared.records.Component.{Component}
-use Rattle.gm_state.specs.Intents.{IsOf, IsAtHand}
-use Rattle.gm_state.specs.Lookups.{component_of}
-use Rattle.gm_state.specs.Readable.{IsCopyWithin, IsPatchWithin, IsReadable}
-use Rattle.gm_state.specs.Records.{Records, IsState, members, provider}
-use Rattle.gm_lists.specs.Ordered.{Has}
-use Rattle.gm_lists.proofs.Finding.{find_one, found, found_none, Has-append_left, Has-append_right}
-use Rattle.gm_lists.proofs.Order.{same_from}
-use Rattle.gm_lists.proofs.Lists.{filter-Has}
-use Rattle.gm_state.proofs.TestsTellRules.{member}
-use Rattle.gm_bench.specs.Presence.{serves, is_present, absent_among, providers_in, first_absent}
 
 found_in : (s : Records) (p : List ℕ) (j : Component) → component_of s p ≡ Some j
     → Has s.components j

@@ -1,16 +1,6 @@
 -- The tables that a bench has are readable, and say what it stands for.
-use Rattle.std.proofs.Common.{◌≡◌, ◌≤◌, ℕ, List, [], map, length, arith}
-use Rattle.std.proofs.lemmas.List.{length-map}
-use Rattle.std.proofs.lemmas.List.Sorted.{length_permutation}
-use Rattle.gm_metadata.specs.Images.{Image}
-use Rattle.gm_state.specs.declared.intents.Intent.{Intent}
-use Rattle.gm_state.specs.Records.{Records}
-use Rattle.gm_state.specs.Rows.{Tables, answer_row, intent_rows}
-use Rattle.gm_state.specs.World.{World}
+use Rattle.gm_bench.proofs.Common.{◌≡◌, ◌≤◌, ℕ, List, [], map, length, arith, length-map, length_permutation, Image, Intent, Records, Tables, answer_row, intent_rows, World, AreTablesOf, HasNothingPending, Leads}
 use Rattle.gm_state.proofs.Suffixes.{none_left}
-use Rattle.gm_rows.specs.ReadableTables.{AreTablesOf}
-use Rattle.gm_bench.specs.Calls.{HasNothingPending}
-use Rattle.gm_bench.specs.Leading.{Leads}
 
 pub tables_of : (t : Tables) (ts : List Intent) (bytes : List (List ℕ)) (x : Image) (w : World)
     → Leads t ts bytes x w → AreTablesOf t w.state ts bytes

@@ -1,22 +1,8 @@
 -- A redo leads each image to where it led.
-use Rattle.std.proofs.Common.{◌≡◌, ◌∙◌, ◌+◌, ◌-◌, Some, inl, inr, ℕ, List, refl, sym, ap, subst, arith}
-use Rattle.gm_metadata.specs.Images.{Image, Sizes}
-use Rattle.gm_shelf.specs.Disk.{View, From, IsLawful}
-use Rattle.gm_state.specs.declared.intents.Intent.{Intent}
-use Rattle.gm_state.specs.declared.intents.Intent.TheVariants.{Meta}
-use Rattle.gm_state.specs.Intents.{is_place, IsAtHand, IsRedo, InOrder, Agrees}
-use Rattle.gm_state.specs.Records.{Records}
-use Rattle.gm_state.specs.Rows.{Tables}
-use Rattle.gm_lists.specs.Ordered.{Has}
-use Rattle.gm_state.specs.World.{World, present, claimed}
-use Rattle.gm_apply.specs.Continues.{Continues}
-use Rattle.gm_apply.specs.Redo.{IsPartlyDone, CrashLeaves, PlacesAreNew}
+use Rattle.gm_bench.proofs.Common.{◌≡◌, ◌∙◌, ◌+◌, ◌-◌, Some, inl, inr, ℕ, List, refl, sym, ap, subst, arith, Image, Sizes, View, From, IsLawful, Intent, Meta, is_place, IsAtHand, IsRedo, InOrder, Agrees, Records, Tables, Has, World, present, claimed, Continues, IsPartlyDone, PlacesAreNew, copies_data, AreAmong, whole, Leads, KeepsClaims, AllLead, Cover, IsShelfOf, sound_claims, same_data}
+use Rattle.gm_apply.specs.Redo.{CrashLeaves}
 use Rattle.gm_apply.proofs.LeadsOn.{leads_on, ends_there, claims_kept, claim_kept}
-use Rattle.gm_state.proofs.ReadableIntents.{copies_data}
-use Rattle.gm_bench.specs.Leading.{AreAmong, whole, Leads, KeepsClaims, AllLead}
-use Rattle.gm_bench.specs.Recovering.{Cover, IsShelfOf}
 use Rattle.gm_bench.proofs.ShelfProviders.{masked, are_there, have_sizes, order_of, redo_down, partly_up}
-use Rattle.gm_state.proofs.SoundClaims.{sound_claims, same_data}
 
 -- what `apply` promises of moments, for these records, bytes, sizes and intents
 abbrev pub Moments : Records → List (List ℕ) → Sizes → List Intent → View → View → Type 0

@@ -1,18 +1,6 @@
 -- What a registry leaves, from what its calls promise.
-use Rattle.std.proofs.Common.{◌≡◌, inl, inr, ℕ, List, [], sym, subst}
-use Rattle.sqlite_trees.specs.declared.store.Store.{Ghosts}
-use Rattle.sqlite.specs.Tree.{Trees}
-use Rattle.sqlite.specs.Held.{Held}
-use Rattle.gm_metadata.specs.Images.{Image, Sizes}
+use Rattle.gm_bench.proofs.Common.{◌≡◌, inl, inr, ℕ, List, [], sym, subst, Ghosts, Trees, Held, Image, Sizes, View, IsLawful, Intent, Tables, World, settled, CrashLeaves, CrashLeavesOnly, DiskKept, HasTables, LeavesNothingNew, MayLeave, AreAmong, whole, Leads, AllLead, Recovers, IsAt, IsShelfOf, LeavesOnly}
 use Rattle.gm_shelf.specs.declared.shelf.Shelf.{Ghosts as ShelfGhosts}
-use Rattle.gm_shelf.specs.Disk.{View, IsLawful}
-use Rattle.gm_state.specs.declared.intents.Intent.{Intent}
-use Rattle.gm_state.specs.Rows.{Tables}
-use Rattle.gm_state.specs.World.{World}
-use Rattle.gm_registry.specs.Changes.{settled}
-use Rattle.gm_registry.specs.Registry.{CrashLeaves, CrashLeavesOnly, DiskKept, HasTables, LeavesNothingNew, MayLeave}
-use Rattle.gm_bench.specs.Leading.{AreAmong, whole, Leads, AllLead}
-use Rattle.gm_bench.specs.Recovering.{Recovers, IsAt, IsShelfOf, LeavesOnly}
 use Rattle.gm_bench.proofs.ShelfProviders.{masked}
 use Rattle.gm_bench.proofs.CarriedOut.{carried_out, settled_leads}
 use Rattle.gm_bench.proofs.WorldAtRest.{rest_claims, settled_claims, whole_rest}

@@ -1,32 +1,7 @@
 -- From what an opening without a provider does over its registry to what it leaves of the store.
-use Rattle.std.proofs.Common.{◌≡◌, ◌∙◌, ◌⊎◌, inl, inr, Ok, ℕ, List, sym, subst, arith}
-use Rattle.sqlite_trees.specs.declared.store.Store.{Ghosts}
-use Rattle.sqlite.specs.Tree.{Trees}
-use Rattle.sqlite.specs.Held.{Held, state}
-use Rattle.gm_metadata.specs.Images.{Image}
+use Rattle.gm_bench.proofs.Common.{◌≡◌, ◌∙◌, ◌⊎◌, inl, inr, Ok, ℕ, List, sym, subst, arith, Ghosts, Trees, Held, state, Image, IsLawful, Call, Intent, Reply, Plain, World, Tables, IsStored, Opens, CrashLeaves, DiskKept, HasTables, IsOpen, LeavesAlone, MayLeave, WasClean, stored, sees_registry, Answer, Done, Repeated, Bench, Opened, Carried, redone_of, registry_of, shelf_of, AnswersLoss, AreUntouched, GivesUp, LacksImage, LeavesUndone, dropped, IsLeft, IsFound, IsStepWithout, LeavesCommit, WithoutCarries, WithoutDoes, WithoutLeaves, Carries, Commits, DoesLoss, DoesWithout, KeepsUndone, LacksFirst, LeavesLoss, LeavesWithout, loss_call}
 use Rattle.gm_shelf.specs.declared.shelf.Shelf.{Ghosts as ShelfGhosts}
-use Rattle.gm_shelf.specs.Disk.{IsLawful}
-use Rattle.gm_rules.specs.AbstractCalls.{Call}
-use Rattle.gm_state.specs.declared.intents.Intent.{Intent}
-use Rattle.gm_state.specs.declared.intents.Reply.{Reply}
-use Rattle.gm_state.specs.declared.intents.Reply.TheVariants.{Plain}
-use Rattle.gm_state.specs.World.{World}
-use Rattle.gm_state.specs.Rows.{Tables}
-use Rattle.gm_registry.specs.Opens.{IsStored, Opens}
-use Rattle.gm_registry.specs.Registry.{CrashLeaves, DiskKept, HasTables, IsOpen, LeavesAlone, MayLeave, WasClean, stored}
-use Rattle.gm_registry.proofs.ReadsInTurn.{sees_registry}
-use Rattle.gm_bench.specs.declared.answer.Answer.{Answer}
-use Rattle.gm_bench.specs.declared.answer.Answer.TheVariants.{Done, Repeated, Refused as NotDone}
-use Rattle.gm_bench.specs.declared.bench.Bench.{Bench}
-use Rattle.gm_bench.specs.declared.open_without.Without.TheVariants.{Opened}
-use Rattle.gm_bench.specs.declared.take_up_without.TakenUp.TheVariants.{Carried}
-use Rattle.gm_bench.specs.Benches.{redone_of, registry_of, shelf_of}
-use Rattle.gm_bench.specs.GivingUp.{AnswersLoss, AreUntouched, GivesUp, LacksImage, LeavesUndone}
-use Rattle.gm_bench.specs.Losing.{dropped}
-use Rattle.gm_bench.specs.Owed.{IsLeft}
-use Rattle.gm_bench.specs.Recovering.{IsFound}
-use Rattle.gm_bench.specs.Schedule.{IsStepWithout, LeavesCommit, WithoutCarries, WithoutDoes, WithoutLeaves}
-use Rattle.gm_bench.specs.Without.{Carries, Commits, DoesLoss, DoesWithout, KeepsUndone, LacksFirst, LeavesLoss, LeavesWithout, loss_call}
+use Rattle.gm_bench.specs.declared.answer.Answer.TheVariants.{Refused as NotDone}
 use Rattle.gm_bench.proofs.DecidesOnly.{alone_then}
 use Rattle.gm_bench.proofs.ReopenedStore.{carried_then, found_at, is_opening, only_opened, opens_over}
 

@@ -1,25 +1,6 @@
 -- From a store that a stop left to a registry that leads on.
-use Rattle.std.proofs.Common.{◌≡◌, inl, inr, ℕ, List, refl, sym, subst}
-use Rattle.sqlite_trees.specs.declared.store.Store.{Ghosts}
-use Rattle.sqlite.specs.Tree.{Trees}
-use Rattle.sqlite.specs.Effect.{Database}
-use Rattle.sqlite.specs.Held.{Held, state}
-use Rattle.gm_metadata.specs.Images.{Image}
+use Rattle.gm_bench.proofs.Common.{◌≡◌, inl, inr, ℕ, List, refl, sym, subst, Ghosts, Trees, Database, Held, state, Image, IsLawful, Intent, Tables, World, IsStored, DiskKept, CrashLeaves, HasTables, LeavesAlone, MayCarryOver, MayLeave, StoreFailed, stored, IsCarriedOver, IsKnownStore, known_first, known_second, failed_since, survives_then, AllLead, HoldsKnown, MayBeCarriedOver, IsLeft, IsOpening, OpenLeaves, Recovers, IsFound, LeavesOnly}
 use Rattle.gm_shelf.specs.declared.shelf.Shelf.{Ghosts as ShelfGhosts}
-use Rattle.gm_shelf.specs.Disk.{IsLawful}
-use Rattle.gm_state.specs.declared.intents.Intent.{Intent}
-use Rattle.gm_state.specs.Rows.{Tables}
-use Rattle.gm_state.specs.World.{World}
-use Rattle.gm_registry.specs.Opens.{IsStored}
-use Rattle.gm_registry.specs.Registry.{DiskKept, CrashLeaves, HasTables, LeavesAlone, MayCarryOver, MayLeave, StoreFailed, stored}
-use Rattle.gm_registry.specs.Opening.{IsCarriedOver, IsKnownStore}
-use Rattle.gm_registry.proofs.EitherSchema.{known_first, known_second}
-use Rattle.gm_registry.proofs.Failures.{failed_since}
-use Rattle.sqlite.proofs.StateLemmas.{survives_then}
-use Rattle.gm_bench.specs.Leading.{AllLead}
-use Rattle.gm_bench.specs.Opened.{HoldsKnown, MayBeCarriedOver}
-use Rattle.gm_bench.specs.Owed.{IsLeft, IsOpening, OpenLeaves}
-use Rattle.gm_bench.specs.Recovering.{Recovers, IsFound, LeavesOnly}
 
 pub known_store : (db : Trees) → HoldsKnown db → IsKnownStore db
 known_store db (inl stored) = elim stored.1 [

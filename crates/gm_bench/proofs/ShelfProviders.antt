@@ -1,29 +1,5 @@
 -- The providers that are on a shelf, among all that there are.
-use Rattle.std.proofs.Common.{◌≡◌, ◌∙◌, ◌⊎◌, inl, inr, ⊎_elim, ℕ, ◌≤◌, ◌<◌, ◌&&◌, Bool, true, false, List, [], ◌∷◌, Option, Some, None, refl, sym, ap, subst, if◌then◌else◌, true≢false}
-use Rattle.std.specs.Prelude.{IsSome, IsSomeAnd, is_some, nat_le, nat_lt, ◌≢◌}
-use Rattle.std.specs.List.{list_any}
-use Rattle.std.proofs.lemmas.Bool.{cases_Bool, and_parts, or_parts}
-use Rattle.gm_metadata.specs.Images.{Image, Sizes, same_label}
-use Rattle.gm_metadata.specs.Reading.{encoded}
-use Rattle.gm_state.specs.declared.intents.Intent.{Intent}
-use Rattle.gm_state.specs.declared.intents.Intent.TheVariants.{Meta, Clear, Copy, Dirty, Patch}
-use Rattle.gm_lists.specs.Ordered.{Has}
-use Rattle.gm_state.specs.declared.records.Mirror.{Mirror}
-use Rattle.gm_state.specs.declared.records.Component.{Component}
-use Rattle.gm_state.specs.Records.{Records, IsState, name, provider}
-use Rattle.gm_state.specs.Lookups.{component_of, dirty_metadata}
-use Rattle.gm_state.specs.Intents.{IsOf, AreThere, IsAtHand, touches, is_last, is_dirty_of, names, is_place, any_copies, IsMeta, IsDirt, Says, Lends, LeaveNoDirt, IsRedo, InOrder}
-use Rattle.gm_state.specs.Readable.{AreReadable}
-use Rattle.gm_state.specs.World.{World, Sound, present}
-use Rattle.gm_lists.proofs.Finding.{not_both, some_any}
-use Rattle.gm_lists.proofs.Order.{same_is}
-use Rattle.gm_lists.proofs.Putting.{one}
-use Rattle.gm_state.proofs.PatchFound.{meta_of_dirt}
-use Rattle.gm_state.proofs.TestsTellRules.{member}
-use Rattle.gm_apply.specs.Redo.{is_marked, Stage, Before, Marked, Behind, IsPartlyDone}
-use Rattle.gm_state.proofs.ReadableIntents.{in_order}
-use Rattle.gm_bench.specs.Leading.{AreAmong, whole}
-use Rattle.gm_bench.specs.Recovering.{Cover}
+use Rattle.gm_bench.proofs.Common.{◌≡◌, ◌∙◌, ◌⊎◌, inl, inr, ⊎_elim, ℕ, ◌≤◌, ◌<◌, ◌&&◌, Bool, true, false, List, [], ◌∷◌, Option, Some, None, refl, sym, ap, subst, if◌then◌else◌, true≢false, IsSome, IsSomeAnd, is_some, nat_le, nat_lt, ◌≢◌, list_any, cases_Bool, and_parts, or_parts, Image, Sizes, same_label, encoded, Intent, Meta, Clear, Copy, Dirty, Patch, Has, Mirror, Component, Records, IsState, name, provider, component_of, dirty_metadata, IsOf, AreThere, IsAtHand, touches, is_last, is_dirty_of, names, is_place, any_copies, IsMeta, IsDirt, Says, Lends, LeaveNoDirt, IsRedo, InOrder, AreReadable, World, Sound, present, not_both, some_any, same_is, one, meta_of_dirt, member, is_marked, Stage, Before, Marked, Behind, IsPartlyDone, in_order, AreAmong, whole, Cover}
 use Rattle.gm_bench.proofs.LossReadable.{home, on_provider}
 
 shown : (b : Bool) (o : Option ℕ) → ((if b then o else None) ≡ None) ⊎ ((if b then o else None) ≡ o)

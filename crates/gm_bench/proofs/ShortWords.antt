@@ -1,33 +1,16 @@
 -- The canonical words of a command that nothing refuses are short.
-use Rattle.std.proofs.Common.{◌≡◌, ◌∙◌, ℕ, ◌+◌, ◌*◌, ◌≤◌, ◌<◌, ◌^◌, ◌&&◌, Bool, true, false, not, nat_lt, arith, refl, sym, ap, List, [], ◌∷◌, ◌++◌, Option, Some, None, length, codes, ltb-true, ltb-false, length-append}
-use Rattle.std.specs.Prelude.{IsTrue}
+use Rattle.gm_bench.proofs.Common.{◌≡◌, ◌∙◌, ℕ, ◌+◌, ◌*◌, ◌≤◌, ◌<◌, ◌^◌, ◌&&◌, Bool, true, false, not, nat_lt, arith, refl, sym, ap, List, [], ◌∷◌, ◌++◌, Option, Some, None, length, codes, ltb-true, ltb-false, length-append, IsTrue, join_with_byte, list_all, list_any, and_parts, not-false, or_parts, balance_name, same_label, is_label, is_label_byte, Command, Label, Insert, Remove, Deactivate, Activate, Forget, Rebuild, Configure, Destroy, Lost, Advance, Adopt, CommandFits, PreferenceFits, SliceFits, balance_of_word, balance_words, given_switch, is_key, on_where, preference_words, setting_words, slice_words, words, words_of, Distinct, none_any, not_both, some_any, same_from, same_is, Component, Records, IsState, provider, has_twice, IsGood, members_named, Seen, few_members, names_among}
 use Rattle.std.specs.Fmt.{decimal}
-use Rattle.std.specs.List.{join_with_byte, list_all, list_any}
-use Rattle.std.proofs.lemmas.Bool.{and_parts, not-false, or_parts}
 use Rattle.std.proofs.lemmas.Fmt.{length-decimal-le}
-use Rattle.gm_metadata.specs.Balance.{balance_name}
-use Rattle.gm_metadata.specs.Images.{same_label}
-use Rattle.gm_metadata.specs.Labels.{is_label, is_label_byte}
 use Rattle.gm_metadata.proofs.Labels.{label_parts}
 use Rattle.gm_commands.specs.declared.command.BalanceWord.{BalanceWord}
 use Rattle.gm_commands.specs.declared.command.BalanceWord.TheVariants.{Load, Prefer, RoundRobin, Split}
-use Rattle.gm_commands.specs.declared.command.Command.{Command}
-use Rattle.gm_commands.specs.declared.command.Command.TheVariants.{Label, Insert, Remove, Deactivate, Activate, Forget, Rebuild, Configure, Clear, Destroy, Lost, Advance, Adopt, Patch}
+use Rattle.gm_commands.specs.declared.command.Command.TheVariants.{Clear, Patch}
 use Rattle.gm_commands.specs.declared.command.Preference.{Preference}
 use Rattle.gm_commands.specs.declared.command.Settings.{Settings}
-use Rattle.gm_commands.specs.Commands.{CommandFits, PreferenceFits, SliceFits, balance_of_word, balance_words, given_switch, is_key, on_where, preference_words, setting_words, slice_words, words, words_of}
 use Rattle.gm_commands.specs.Sectors.{joined as joined_sectors}
 use Rattle.hex.specs.Hex.{encode_lower, encode_with}
-use Rattle.gm_lists.specs.Ordered.{Distinct}
-use Rattle.gm_lists.proofs.Finding.{none_any, not_both, some_any}
-use Rattle.gm_lists.proofs.Order.{same_from, same_is}
-use Rattle.gm_state.specs.declared.records.Component.{Component}
-use Rattle.gm_state.specs.Records.{Records, IsState, provider}
 use Rattle.gm_refusals.specs.declared.refusals.Refusal.TheVariants as refusals
-use Rattle.gm_refusals.specs.Adoptable.{has_twice}
-use Rattle.gm_refusals.specs.Applies.{IsGood, members_named}
-use Rattle.gm_refusals.specs.Seen.{Seen}
-use Rattle.gm_changes.proofs.FewWritten.{few_members, names_among}
 use Rattle.gm_bench.proofs.FewBytes.{patch_long}
 
 -- ---- how long words are that are joined

@@ -1,29 +1,6 @@
 -- A bench that takes a command stands for a world: what waits to be settled is carried out.
-use Rattle.std.proofs.Common.{◌≡◌, inl, inr, ℕ, List, [], refl, sym, subst, subst₂}
-use Rattle.std.specs.Prelude.{Result, Ok, Err, OnOk}
-use Rattle.sqlite_trees.specs.declared.store.Store.{Ghosts}
-use Rattle.sqlite.specs.Held.{Held}
-use Rattle.gm_metadata.specs.Images.{Image}
+use Rattle.gm_bench.proofs.Common.{◌≡◌, inl, inr, ℕ, List, [], refl, sym, subst, subst₂, Result, Ok, Err, OnOk, Ghosts, Held, Image, IsLawful, Intent, Records, Tables, World, AreRecordsOf, AreTablesOf, CrashLeavesOnly, Work, Progress, Ready, Pending, Applied, Failed, Waiting, Nothing, HasNothingElse, WaitsFor, HasNothingPending, whole, SettleDoes, SettleLeaves, TakesCommands, waiting_of, IsAt, IsCarriedOut, LeavesOnly, Stands}
 use Rattle.gm_shelf.specs.declared.shelf.Shelf.{Ghosts as ShelfGhosts}
-use Rattle.gm_shelf.specs.Disk.{IsLawful}
-use Rattle.gm_state.specs.declared.intents.Intent.{Intent}
-use Rattle.gm_state.specs.Records.{Records}
-use Rattle.gm_state.specs.Rows.{Tables}
-use Rattle.gm_state.specs.World.{World}
-use Rattle.gm_rows.specs.ReadableTables.{AreRecordsOf, AreTablesOf}
-use Rattle.gm_registry.specs.Registry.{CrashLeavesOnly}
-use Rattle.gm_bench.specs.declared.answer.Work.{Work}
-use Rattle.gm_bench.specs.declared.phase.Progress.{Progress}
-use Rattle.gm_bench.specs.declared.phase.Progress.TheVariants.{Ready, Pending, Applied, Failed}
-use Rattle.gm_bench.specs.declared.phase.Waiting.{Waiting}
-use Rattle.gm_bench.specs.declared.phase.Waiting.TheVariants.{Nothing}
-use Rattle.gm_bench.specs.Accepting.{HasNothingElse, WaitsFor}
-use Rattle.gm_bench.specs.Calls.{HasNothingPending}
-use Rattle.gm_bench.specs.Leading.{whole}
-use Rattle.gm_bench.specs.Owed.{SettleDoes, SettleLeaves}
-use Rattle.gm_bench.specs.Phases.{TakesCommands, waiting_of}
-use Rattle.gm_bench.specs.Recovering.{IsAt, IsCarriedOut, LeavesOnly}
-use Rattle.gm_bench.specs.Standing.{Stands}
 use Rattle.gm_bench.proofs.CarriedOut.{at_of, carried_out, done_at_rest}
 use Rattle.gm_bench.proofs.ReadTables.{pending_none, tables_of}
 use Rattle.gm_bench.proofs.RegistryLeaves.{still_only}

@@ -1,12 +1,5 @@
 -- A store's failure after a call that only read, and what room for rows such a call leaves.
-use Rattle.std.proofs.Common.{◌≡◌, ◌∙◌, inl, inr, ℕ, ◌≤◌, sym, subst, arith, Option}
-use Rattle.std.specs.Prelude.{IsSome}
-use Rattle.sqlite_trees.specs.declared.store.Store.{Ghosts}
-use Rattle.sqlite.specs.Held.{Held, state}
-use Rattle.gm_state.specs.Rows.{Tables}
-use Rattle.gm_registry.specs.Fitting.{HasRoom}
-use Rattle.gm_registry.specs.Registry.{DiskKept, HasTables, Reads, StoreFailed, seen}
-use Rattle.gm_bench.specs.Calls.{GoesOn}
+use Rattle.gm_bench.proofs.Common.{◌≡◌, ◌∙◌, inl, inr, ℕ, ◌≤◌, sym, subst, arith, Option, IsSome, Ghosts, Held, state, Tables, HasRoom, DiskKept, HasTables, Reads, StoreFailed, seen, GoesOn}
 
 module _ {S : Type 0} (g : Ghosts S) (old mid : Held S) where
   pub failed_behind : (state g old).faults ≤ (state g mid).faults

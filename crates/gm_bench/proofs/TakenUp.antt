@@ -1,16 +1,6 @@
 -- From what was found to what was carried out, after a load.
-use Rattle.std.proofs.Common.{◌≡◌, ◌∙◌, ℕ, List, Option, sym, ap, subst, subst₂}
-use Rattle.sqlite_trees.specs.declared.store.Store.{Ghosts}
-use Rattle.sqlite.specs.Held.{Held}
-use Rattle.gm_metadata.specs.Images.{Image, Sizes}
+use Rattle.gm_bench.proofs.Common.{◌≡◌, ◌∙◌, ℕ, List, Option, sym, ap, subst, subst₂, Ghosts, Held, Image, Sizes, Intent, Records, World, CrashLeavesOnly, HasTables, AllLead, Recovers, IsFound, LeavesOnly, first_absent}
 use Rattle.gm_shelf.specs.declared.shelf.Shelf.{Ghosts as ShelfGhosts}
-use Rattle.gm_state.specs.declared.intents.Intent.{Intent}
-use Rattle.gm_state.specs.Records.{Records}
-use Rattle.gm_state.specs.World.{World}
-use Rattle.gm_registry.specs.Registry.{CrashLeavesOnly, HasTables}
-use Rattle.gm_bench.specs.Leading.{AllLead}
-use Rattle.gm_bench.specs.Recovering.{Recovers, IsFound, LeavesOnly}
-use Rattle.gm_bench.specs.Presence.{first_absent}
 use Rattle.gm_bench.proofs.RegistryLeaves.{leads_in}
 
 module _ {S H : Type 0} (g : Ghosts S) (j : ShelfGhosts H) (r mid : Held S)

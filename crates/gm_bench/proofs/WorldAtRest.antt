@@ -1,23 +1,5 @@
 -- A world at rest: no intent is pending, and the shelf is the world's.
-use Rattle.std.proofs.Common.{◌≡◌, ◌∙◌, inl, inr, ℕ, List, [], refl, sym, subst, arith}
-use Rattle.std.specs.List.Sorted.{IsPermutation}
-use Rattle.std.specs.Prelude.{is_some}
-use Rattle.std.proofs.lemmas.List.Sorted.{IsPermutation-refl}
-use Rattle.std.proofs.lemmas.Bool.{cases_Bool}
-use Rattle.gm_metadata.specs.Images.{Image, Sizes, SameThere, same_label}
-use Rattle.gm_state.specs.declared.intents.Intent.{Intent}
-use Rattle.gm_state.specs.declared.records.Component.{Component}
-use Rattle.gm_state.specs.Intents.{IsAtHand}
-use Rattle.gm_state.proofs.PatchFound.{without_patch}
-use Rattle.gm_state.specs.Readable.{AreReadable}
-use Rattle.gm_state.specs.Rows.{Tables, HoldRecords}
-use Rattle.gm_lists.specs.Ordered.{Has}
-use Rattle.gm_state.specs.World.{World, Sound}
-use Rattle.gm_state.proofs.SoundClaims.{sound_claims}
-use Rattle.gm_lists.proofs.Finding.{found_none, not_both}
-use Rattle.gm_lists.proofs.Order.{same_refl}
-use Rattle.gm_state.proofs.TestsTellRules.{member}
-use Rattle.gm_bench.specs.Leading.{AreAmong, whole, Leads, KeepsClaims}
+use Rattle.gm_bench.proofs.Common.{◌≡◌, ◌∙◌, inl, inr, ℕ, List, [], refl, sym, subst, arith, IsPermutation, is_some, IsPermutation-refl, cases_Bool, Image, Sizes, SameThere, same_label, Intent, Component, IsAtHand, without_patch, AreReadable, Tables, HoldRecords, Has, World, Sound, sound_claims, found_none, not_both, same_refl, member, AreAmong, whole, Leads, KeepsClaims}
 use Rattle.gm_bench.proofs.ShelfProviders.{whole_there, whole_away, away_no_place}
 
 none_readable : (w : World) → AreReadable w.state [] []

@@ -1,30 +1,7 @@
 -- What is seen alike is decided alike: what facts decide is what the world decides.
-use Rattle.std.proofs.Common.{◌≡◌, ◌∙◌, inl, ℕ, ◌||◌, ◌+◌, ◌≤◌, Bool, true, false, not, nat_lt, refl, sym, ap, ap₂, subst, List, Option, map, Some, None, Result, Ok, Err, is_none, unwrap_or}
-use Rattle.std.specs.List.{list_any}
-use Rattle.gm_commands.specs.declared.command.Command.{Command}
-use Rattle.gm_commands.specs.declared.command.Command.TheVariants.{Label, Insert, Remove, Deactivate, Activate, Forget, Rebuild, Configure, Clear, Destroy, Lost, Advance, Adopt, Patch}
-use Rattle.std.proofs.lemmas.Bool.{not-false}
-use Rattle.gm_taste.specs.declared.tasted.Member.{Member}
-use Rattle.gm_state.specs.declared.records.Mirror.{Mirror}
-use Rattle.gm_state.specs.declared.records.Component.{Component}
-use Rattle.gm_lists.specs.Ordered.{Has, put, put_all}
-use Rattle.gm_state.specs.Records.{Records, name, provider}
-use Rattle.gm_state.specs.Lookups.{mirror_of}
-use Rattle.gm_state.specs.World.{World}
+use Rattle.gm_changes.proofs.Common.{◌≡◌, ◌∙◌, inl, ℕ, ◌||◌, ◌+◌, ◌≤◌, Bool, true, false, not, nat_lt, refl, sym, ap, ap₂, subst, List, Option, map, Some, None, Result, Ok, Err, is_none, unwrap_or, list_any, Command, Label, Insert, Remove, Deactivate, Activate, Forget, Rebuild, Configure, Clear, Destroy, Lost, Advance, Adopt, Patch, not-false, Member, Mirror, Component, Has, put, put_all, Records, name, provider, mirror_of, World, Refusal, NoMirror, NameTaken, MidTaken, Absent, ProviderTaken, CarriesMetadata, TooSmall, NotMember, DidTaken, Full, TooManyMirrors, SomeLost, LastActive, AlreadyInactive, NotInactive, NoneLost, Inactive, NotSynchronizing, LastSyncid, LastGenid, NothingGiven, NotAdoptable, WrongSize, NoMetadata, BeingFilled, BeyondEnd, last_carries, Seen, seen_in, has_size, is_there_and, applies, has_wrong_size, looked_at, takes_mid, has_did, finds_did_twice, is_unfit, members_named, awaited, mirror_named, after, intents_of, new_mirror, first_component, spare, on_found, source_in, data_of, is_adoptable, adopted_mirror, adopted, AreFacts, TellEqual, needed_by, seen_of, Changed, Decides, IsGood, any_agree, Has-append_left, Has-append_right, map-Has}
 use Rattle.gm_refusals.specs.declared.facts.Fact.{Fact}
-use Rattle.gm_refusals.specs.declared.refusals.Refusal.{Refusal}
-use Rattle.gm_refusals.specs.declared.refusals.Refusal.TheVariants.{NoMirror, NameTaken, MidTaken, Absent, ProviderTaken, CarriesMetadata, TooSmall, NotMember, DidTaken, Full, TooManyMirrors, SomeLost, LastActive, AlreadyInactive, NotInactive, NoneLost, Inactive, NotSynchronizing, LastSyncid, LastGenid, NothingGiven, NotAdoptable, WrongSize, NoMetadata, BeingFilled, BeyondEnd}
-use Rattle.gm_refusals.specs.Facts.{last_carries}
-use Rattle.gm_refusals.specs.Seen.{Seen, seen_in, has_size, is_there_and}
-use Rattle.gm_refusals.specs.Applies.{applies, has_wrong_size, looked_at, takes_mid, has_did, finds_did_twice, is_unfit, members_named, awaited, mirror_named}
-use Rattle.gm_changes.specs.After.{after, intents_of, new_mirror, first_component, spare, on_found}
-use Rattle.gm_refusals.specs.Adoptable.{source_in, data_of, is_adoptable, adopted_mirror, adopted}
 use Rattle.gm_refusals.proofs.SeenAlike.{SeeAlike, same_mid, same_twice, same_source, same_adoptable, same_adopted}
-use Rattle.gm_refusals.specs.WorldFacts.{AreFacts, TellEqual, needed_by, seen_of}
-use Rattle.gm_changes.specs.Decides.{Changed, Decides}
-use Rattle.gm_refusals.specs.Applies.{IsGood}
-use Rattle.gm_lists.proofs.Finding.{any_agree, Has-append_left, Has-append_right}
-use Rattle.gm_lists.proofs.Lists.{map-Has}
 
 -- ---- what is seen of images that are to be adopted
 

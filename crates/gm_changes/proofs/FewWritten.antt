@@ -1,26 +1,7 @@
 -- How much a change writes: the components and the intents of one mirror.
-use Rattle.std.proofs.Common.{◌≡◌, ◌∙◌, ℕ, ◌+◌, ◌*◌, ◌≤◌, not, refl, inl, inr, sym, ap, arith, List, [], ◌∷◌, Option, Some, None, flat_map, length, map}
-use Rattle.std.proofs.lemmas.List.{length-map}
-use Rattle.std.specs.Str.{bytes_eq}
-use Rattle.gm_metadata.specs.Images.{same_label}
-use Rattle.gm_commands.specs.declared.command.Command.{Command}
-use Rattle.gm_commands.specs.declared.command.Command.TheVariants.{Label, Insert, Remove, Deactivate, Activate, Forget, Rebuild, Configure, Clear, Destroy, Lost, Advance, Adopt, Patch}
+use Rattle.gm_changes.proofs.Common.{◌≡◌, ◌∙◌, ℕ, ◌+◌, ◌*◌, ◌≤◌, not, refl, inl, inr, sym, ap, arith, List, [], ◌∷◌, Option, Some, None, flat_map, length, map, length-map, bytes_eq, same_label, Command, Label, Insert, Remove, Deactivate, Activate, Forget, Rebuild, Configure, Clear, Destroy, Lost, Advance, Adopt, Patch, Meta, Component, Has, Ascends, Distinct, without, option_cases, Has-map, filter-Has, differ, lt_differ, same_from, put_all_there, length-filter_le, length-filter_lt, one, Records, IsState, members, provider, mirror_of, component_of, is_active, source_of, rules_of, no_members, active_of, intents_of, metas, on_found, patching, Changed, PutsInPlace, changed_by}
 use Rattle.gm_state.specs.declared.intents.Intent.{Intent}
-use Rattle.gm_state.specs.declared.intents.Intent.TheVariants.{Meta, Clear as Clears}
-use Rattle.gm_state.specs.declared.records.Component.{Component}
-use Rattle.gm_lists.specs.Ordered.{Has, Ascends, Distinct, without}
-use Rattle.gm_lists.proofs.Finding.{option_cases}
-use Rattle.gm_lists.proofs.Lists.{Has-map, filter-Has}
-use Rattle.gm_lists.proofs.Order.{differ, lt_differ, same_from}
-use Rattle.gm_lists.proofs.PutTogether.{put_all_there}
-use Rattle.gm_lists.proofs.Putting.{length-filter_le, length-filter_lt, one}
-use Rattle.gm_state.specs.Records.{Records, IsState, members, provider}
-use Rattle.gm_state.specs.Lookups.{mirror_of, component_of, is_active}
-use Rattle.gm_state.specs.Sources.{source_of}
-use Rattle.gm_state.proofs.FoundRecords.{rules_of}
-use Rattle.gm_state.proofs.NoMembers.{no_members}
-use Rattle.gm_changes.specs.After.{active_of, intents_of, metas, on_found, patching}
-use Rattle.gm_changes.specs.Decides.{Changed, PutsInPlace, changed_by}
+use Rattle.gm_state.specs.declared.intents.Intent.TheVariants.{Clear as Clears}
 use Rattle.gm_changes.proofs.MakesChange.{no_component}
 
 -- names that differ are no more than the records among which each of them is one's name

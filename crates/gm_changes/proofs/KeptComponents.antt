@@ -1,17 +1,6 @@
 -- Components that are changed where they stand.
-use Rattle.std.proofs.Common.{◌≡◌, ◌∙◌, inl, inr, ℕ, Bool, refl, ap, List, map, cond}
-use Rattle.std.proofs.lemmas.Bool.{cases_Bool}
-use Rattle.gm_metadata.specs.Images.{same_label}
-use Rattle.gm_commands.specs.declared.command.Settings.{Settings}
-use Rattle.gm_state.specs.declared.records.Mirror.{Mirror}
-use Rattle.gm_state.specs.declared.records.Component.{Component}
+use Rattle.gm_changes.proofs.Common.{◌≡◌, ◌∙◌, inl, inr, ℕ, Bool, refl, ap, List, map, cond, cases_Bool, same_label, Settings, Mirror, Component, Has, Ascends, put, put_all, members, provider, is_inactive, map_id, filter-map, put-map, filter-where, put_all-where, activated, advanced, configured, deactivated, freshened, rebuilt}
 use Rattle.gm_state.specs.declared.records.Disk.TheVariants.{Inactive}
-use Rattle.gm_lists.specs.Ordered.{Has, Ascends, put, put_all}
-use Rattle.gm_state.specs.Records.{members, provider}
-use Rattle.gm_state.specs.Lookups.{is_inactive}
-use Rattle.gm_lists.proofs.Mapped.{map_id, filter-map, put-map}
-use Rattle.gm_lists.proofs.Putting.{filter-where, put_all-where}
-use Rattle.gm_changes.specs.After.{activated, advanced, configured, deactivated, freshened, rebuilt}
 
 -- to put what is there changes nothing
 pub put-again : {X : Type 0} (key : X → List ℕ) (xs : List X) → Ascends key xs → (x : X) → Has xs x

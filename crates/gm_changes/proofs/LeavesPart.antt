@@ -1,38 +1,8 @@
 -- What a change leaves of the command's part is the part of what it leaves of the whole.
-use Rattle.std.proofs.Common.{◌≡◌, ◌≢◌, ◌∙◌, inl, ℕ, ◌+◌, ◌-◌, ◌≤◌, ◌==◌, Bool, true, false, not, refl, sym, ap, ap₂, subst, List, Option, Some, None, filter, map, length, arith}
-use Rattle.std.specs.Prelude.{unwrap_or}
-use Rattle.std.proofs.lemmas.Bool.{ne_eqb}
-use Rattle.gm_metadata.specs.Images.{same_label}
-use Rattle.gm_commands.specs.declared.command.Command.{Command}
-use Rattle.gm_commands.specs.declared.command.Command.TheVariants.{Label, Insert, Remove, Deactivate, Activate, Forget, Rebuild, Configure, Destroy, Lost, Advance, Adopt, Patch}
+use Rattle.gm_changes.proofs.Common.{◌≡◌, ◌≢◌, ◌∙◌, inl, ℕ, ◌+◌, ◌-◌, ◌≤◌, ◌==◌, Bool, true, false, not, refl, sym, ap, ap₂, subst, List, Option, Some, None, filter, map, length, arith, unwrap_or, ne_eqb, same_label, Command, Label, Insert, Remove, Deactivate, Activate, Forget, Rebuild, Configure, Destroy, Lost, Advance, Adopt, Patch, Mirror, Component, IsOf, mirror_of, component_of, Has, put, put_all, without, without_all, Records, IsState, members, name, provider, same_is, filter-put, filter_swap, length-filter_le, Ascends-filter, found, NoMirror, NameTaken, MidTaken, Absent, ProviderTaken, CarriesMetadata, TooSmall, NotMember, DidTaken, Full, TooManyMirrors, SomeLost, LastActive, AlreadyInactive, NotInactive, NoneLost, Inactive, NotSynchronizing, LastSyncid, LastGenid, NothingGiven, NotAdoptable, WrongSize, NoMetadata, BeingFilled, BeyondEnd, advanced, new_mirror, first_component, spare, deactivated, freshened, activated, rebuilt, configured_mirror, configured, on_found, after, Seen, source_in, adopted_mirror, adopted, filter-put_all, adopted_on, adopted_mirror_is, name_of, providers_of, Changed, Makes, changed_by, IsGood, IsPartOf, IsPartToDecide, IsGoodButCount, is_asked, part_of, IsMade, LeavesPart, find_within, by_names, by_names_state, by_names_of, same_of, chosen, chosen_name, chosen_owner, part_is, is_state, whole_to_decide, not_at, named, filter-map}
 use Rattle.gm_commands.specs.declared.command.Command.TheVariants as commands
-use Rattle.gm_state.specs.declared.records.Mirror.{Mirror}
-use Rattle.gm_state.specs.declared.records.Component.{Component}
-use Rattle.gm_state.specs.Intents.{IsOf}
-use Rattle.gm_state.specs.Lookups.{mirror_of, component_of}
-use Rattle.gm_lists.specs.Ordered.{Has, put, put_all, without, without_all}
-use Rattle.gm_state.specs.Records.{Records, IsState, members, name, provider}
-use Rattle.gm_lists.proofs.Order.{same_is}
-use Rattle.gm_lists.proofs.Putting.{filter-put, filter_swap, length-filter_le}
-use Rattle.gm_lists.proofs.Lists.{Ascends-filter}
-use Rattle.gm_lists.proofs.Finding.{found}
-use Rattle.gm_refusals.specs.declared.refusals.Refusal.TheVariants.{NoMirror, NameTaken, MidTaken, Absent, ProviderTaken, CarriesMetadata, TooSmall, NotMember, DidTaken, Full, TooManyMirrors, SomeLost, LastActive, AlreadyInactive, NotInactive, NoneLost, Inactive, NotSynchronizing, LastSyncid, LastGenid, NothingGiven, NotAdoptable, WrongSize, NoMetadata, BeingFilled, BeyondEnd}
-use Rattle.gm_changes.specs.After.{advanced, new_mirror, first_component, spare, deactivated, freshened, activated, rebuilt, configured_mirror, configured, on_found, after}
-use Rattle.gm_refusals.specs.Seen.{Seen}
-use Rattle.gm_refusals.specs.Adoptable.{source_in, adopted_mirror, adopted}
-use Rattle.gm_lists.proofs.PutTogether.{filter-put_all}
-use Rattle.gm_refusals.proofs.TakenProviders.{adopted_on, adopted_mirror_is}
-use Rattle.gm_refusals.specs.Applies.{name_of, providers_of}
-use Rattle.gm_changes.specs.Decides.{Changed, Makes, changed_by}
-use Rattle.gm_refusals.specs.Applies.{IsGood}
-use Rattle.gm_refusals.specs.PartOf.{IsPartOf, IsPartToDecide, IsGoodButCount, is_asked, part_of}
-use Rattle.gm_changes.specs.PartChange.{IsMade, LeavesPart}
-use Rattle.gm_refusals.proofs.PartAgrees.{find_within, by_names, by_names_state, by_names_of, same_of, chosen, chosen_name, chosen_owner, part_is, is_state, whole_to_decide}
 use Rattle.gm_changes.proofs.MakesChange.{without_all-swap}
-use Rattle.gm_refusals.proofs.NothingApplies.{not_at}
-use Rattle.gm_state.proofs.FoundRecords.{named}
 use Rattle.gm_changes.proofs.KeptComponents.{Keeps, keeps_configured, keeps_deactivated, keeps_freshened, keeps_where, put_mapped, where_of}
-use Rattle.gm_lists.proofs.Mapped.{filter-map}
 
 -- the test passes the mirror that the command names, and those whose components are on providers
 -- that it names

@@ -1,29 +1,9 @@
 -- What the refusals of advance rule out: the component is SYNCHRONIZING, and another one of its
 -- mirror lends.
-use Rattle.std.proofs.Common.{◌≡◌, ◌≢◌, ◌∙◌, inl, inr, ℕ, ◌<◌, ◌≤◌, ◌+◌, ◌^◌, ◌&&◌, Bool, true, false, not, refl, sym, ap, subst, arith, List, [], ◌∷◌, Option, Some, option_map}
-use Rattle.std.specs.List.{list_any}
-use Rattle.std.proofs.lemmas.Bool.{and_parts, not-false, not-true}
-use Rattle.gm_metadata.specs.Images.{same_label}
+use Rattle.gm_changes.proofs.Common.{◌≡◌, ◌≢◌, ◌∙◌, inl, inr, ℕ, ◌<◌, ◌≤◌, ◌+◌, ◌^◌, ◌&&◌, Bool, true, false, not, refl, sym, ap, subst, arith, List, [], ◌∷◌, Option, Some, option_map, list_any, and_parts, not-false, not-true, same_label, Mirror, Component, InSync, Copying, Has, Records, IsState, members, provider, mirror_of, component_of, held_of, is_active, state_by, IsBest, IsSource, IsSourceOf, lends_to, same_from, same_is, differ, one, Has-filter, filter-Has, found, none_any, not_both, option_cases, is_there_and, is_on_any, is_synchronizing, fails_there, provider_at, rules_of, on_one, active_is}
 use Rattle.gm_metadata.specs.declared.flags.MirrorFlags.{MirrorFlags}
-use Rattle.gm_state.specs.declared.records.Mirror.{Mirror}
-use Rattle.gm_state.specs.declared.records.Component.{Component}
 use Rattle.gm_state.specs.declared.records.Disk.{Disk}
-use Rattle.gm_state.specs.declared.records.Disk.TheVariants.{InSync, Inactive, Copying}
-use Rattle.gm_lists.specs.Ordered.{Has}
-use Rattle.gm_state.specs.Records.{Records, IsState, members, provider}
-use Rattle.gm_state.specs.Lookups.{mirror_of, component_of, held_of, is_active}
-use Rattle.gm_state.specs.States.{state_by}
-use Rattle.gm_state.specs.Sources.{IsBest, IsSource, IsSourceOf, lends_to}
-use Rattle.gm_lists.proofs.Order.{same_from, same_is, differ}
-use Rattle.gm_lists.proofs.Putting.{one}
-use Rattle.gm_lists.proofs.Lists.{Has-filter, filter-Has}
-use Rattle.gm_lists.proofs.Finding.{found, none_any, not_both, option_cases}
-use Rattle.gm_refusals.specs.Seen.{is_there_and}
-use Rattle.gm_refusals.specs.Applies.{is_on_any, is_synchronizing}
-use Rattle.gm_refusals.proofs.NothingApplies.{fails_there}
-use Rattle.gm_state.proofs.FoundRecords.{provider_at, rules_of}
-use Rattle.gm_refusals.proofs.NothingApplies.{on_one}
-use Rattle.gm_state.proofs.FoundRecords.{active_is}
+use Rattle.gm_state.specs.declared.records.Disk.TheVariants.{Inactive}
 
 copying : (flags : MirrorFlags) (d : Disk) → is_synchronizing (state_by flags d) ≡ true
     → (forced : Bool) × (held : ℕ) × (d ≡ Copying forced held)

@@ -1,3 +1,4 @@
+pub mod Common
 pub mod DecidedInWorld
 pub mod KeptComponents
 pub mod LeavesPart

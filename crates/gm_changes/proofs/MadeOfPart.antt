@@ -1,35 +1,6 @@
 -- What is made of a part is what the command makes of the whole.
-use Rattle.std.proofs.Common.{◌≡◌, ◌≢◌, ◌≤◌, ◌==◌, arith, ◌∙◌, inl, ℕ, ◌+◌, ◌-◌, Bool, true, false, not, refl, inr, option_map, sym, ap, ap₂, subst, List, [], ◌∷◌, Option, Some, None, Result, Ok, Err, OnErr, map, filter, find, flat_map, length, if◌then◌else◌}
-use Rattle.gm_commands.specs.declared.command.NewComponent.{NewComponent}
-use Rattle.gm_commands.specs.declared.command.NewMirror.{NewMirror}
-use Rattle.gm_commands.specs.declared.command.Settings.{Settings}
-use Rattle.gm_commands.specs.declared.command.Command.{Command}
-use Rattle.gm_commands.specs.declared.command.Command.TheVariants.{Label, Insert, Remove, Deactivate, Activate, Forget, Rebuild, Configure, Destroy, Lost, Advance, Adopt, Patch}
-use Rattle.gm_state.specs.declared.intents.Intent.TheVariants.{Meta, Clear}
-use Rattle.gm_state.specs.declared.intents.Reply.TheVariants.{Copied}
-use Rattle.gm_taste.specs.declared.tasted.Member.{Member}
-use Rattle.gm_state.specs.declared.records.Mirror.{Mirror}
-use Rattle.gm_state.specs.declared.records.Component.{Component}
-use Rattle.gm_lists.specs.Ordered.{Has, put, without}
-use Rattle.gm_state.specs.Records.{Records, members, provider}
-use Rattle.gm_state.specs.Lookups.{mirror_of, component_of}
-use Rattle.gm_state.specs.Sources.{source_among, source_of}
-use Rattle.gm_changes.specs.After.{metas, clears_of, active_of, patching, new_mirror, first_component, advanced, filling, reach, spare, deactivated, freshened, activated, rebuilt, configured_mirror, configured}
-use Rattle.gm_refusals.specs.Seen.{Seen}
-use Rattle.gm_refusals.specs.Applies.{applies, name_of, providers_of, takes_mid, is_on_any}
-use Rattle.gm_changes.specs.Decides.{Changed, adopting, no_change}
-use Rattle.gm_refusals.specs.Applies.{IsGood}
-use Rattle.gm_refusals.specs.Adoptable.{source_in, is_adoptable}
-use Rattle.gm_refusals.proofs.TakenProviders.{fitting}
-use Rattle.gm_refusals.specs.PartOf.{IsPartOf, IsPartToDecide, IsGoodButCount, applies_to_part, asks_count, part_of}
-use Rattle.gm_changes.specs.PartChange.{IsMade}
-use Rattle.gm_refusals.specs.Refusals.{own}
-use Rattle.gm_refusals.proofs.PartAgrees.{same_mirror, same_members, same_component, same_applies}
-use Rattle.gm_lists.proofs.Finding.{found_none}
-use Rattle.gm_refusals.proofs.NothingApplies.{is_good, not_at}
-use Rattle.gm_refusals.specs.declared.refusals.Refusal.{Refusal}
-use Rattle.std.proofs.lemmas.Bool.{cases_Bool, ne_eqb}
-use Rattle.gm_state.proofs.FoundRecords.{home_of}
+use Rattle.gm_changes.proofs.Common.{◌≡◌, ◌≢◌, ◌≤◌, ◌==◌, arith, ◌∙◌, inl, ℕ, ◌+◌, ◌-◌, Bool, true, false, not, refl, inr, option_map, sym, ap, ap₂, subst, List, [], ◌∷◌, Option, Some, None, Result, Ok, Err, OnErr, map, filter, find, flat_map, length, if◌then◌else◌, NewComponent, NewMirror, Settings, Command, Label, Insert, Remove, Deactivate, Activate, Forget, Rebuild, Configure, Destroy, Lost, Advance, Adopt, Patch, Meta, Copied, Member, Mirror, Component, Has, put, without, Records, members, provider, mirror_of, component_of, source_among, source_of, metas, clears_of, active_of, patching, new_mirror, first_component, advanced, filling, reach, spare, deactivated, freshened, activated, rebuilt, configured_mirror, configured, Seen, applies, name_of, providers_of, takes_mid, is_on_any, Changed, adopting, no_change, IsGood, source_in, is_adoptable, fitting, IsPartOf, IsPartToDecide, IsGoodButCount, applies_to_part, asks_count, part_of, IsMade, own, same_mirror, same_members, same_component, same_applies, found_none, is_good, not_at, Refusal, cases_Bool, ne_eqb, home_of}
+use Rattle.gm_state.specs.declared.intents.Intent.TheVariants.{Clear}
 use Rattle.gm_refusals.specs.declared.refusals.Refusal.TheVariants as refusals
 use Rattle.gm_changes.proofs.MakesChange.{label_makes, insert_makes, remove_makes, deactivate_makes, activate_makes, forget_makes, rebuild_makes, advance_makes, configure_makes, destroy_makes, lost_makes, adopt_makes, patch_makes}
 use Rattle.gm_refusals.proofs.Listed.{listed}

@@ -1,37 +1,7 @@
 -- The changes of the commands are what the commands make of the records.
-use Rattle.std.proofs.Common.{◌≡◌, ◌∙◌, inl, inr, ℕ, ◌+◌, ◌-◌, Bool, true, false, not, ◌||◌, refl, sym, ap, List, [], ◌∷◌, filter, flat_map, map, length, option_map, is_some, Some, None}
-use Rattle.std.specs.List.{list_any}
-use Rattle.std.proofs.lemmas.Bool.{cases_Bool}
-use Rattle.gm_metadata.specs.Images.{same_label}
-use Rattle.gm_commands.specs.declared.command.NewComponent.{NewComponent}
-use Rattle.gm_commands.specs.declared.command.NewMirror.{NewMirror}
-use Rattle.gm_commands.specs.declared.command.Settings.{Settings}
-use Rattle.gm_commands.specs.declared.command.Command.TheVariants.{Label, Insert, Remove, Deactivate, Activate, Forget, Rebuild, Configure, Destroy, Lost, Advance, Adopt, Patch}
-use Rattle.gm_state.specs.declared.intents.Intent.TheVariants.{Meta, Clear}
-use Rattle.gm_state.specs.declared.intents.Reply.TheVariants.{Copied}
-use Rattle.gm_taste.specs.declared.tasted.Member.{Member}
-use Rattle.gm_state.specs.declared.records.Mirror.{Mirror}
-use Rattle.gm_state.specs.declared.records.Component.{Component}
-use Rattle.gm_lists.specs.Ordered.{Has, put, put_all, without, without_all}
-use Rattle.gm_state.specs.Records.{Records, IsState, members, provider}
-use Rattle.gm_state.specs.Lookups.{mirror_of, component_of}
-use Rattle.gm_state.specs.Sources.{source_among}
-use Rattle.gm_lists.proofs.Order.{same_from, same_is}
-use Rattle.gm_lists.proofs.Putting.{filter-put, filter_swap, filter_id, one}
-use Rattle.gm_lists.proofs.Lists.{Has-filter, filter-Has}
-use Rattle.gm_refusals.specs.Seen.{Seen}
-use Rattle.gm_refusals.specs.Applies.{is_on_any}
-use Rattle.gm_changes.specs.After.{metas, clears_of, active_of, patching, new_mirror, first_component, advanced, filling, reach, spare, deactivated, freshened, activated, rebuilt, configured_mirror, configured}
-use Rattle.gm_changes.specs.Decides.{Changed, Makes, adopting, no_change}
-use Rattle.gm_refusals.specs.Applies.{IsGood}
-use Rattle.gm_lists.proofs.Finding.{filter_agree, any-map, any_from, any_one, some_any, none_any, found_none, not_both}
-use Rattle.gm_state.proofs.NoMembers.{no_members}
+use Rattle.gm_changes.proofs.Common.{◌≡◌, ◌∙◌, inl, inr, ℕ, ◌+◌, ◌-◌, Bool, true, false, not, ◌||◌, refl, sym, ap, List, [], ◌∷◌, filter, flat_map, map, length, option_map, is_some, Some, None, list_any, cases_Bool, same_label, NewComponent, NewMirror, Settings, Label, Insert, Remove, Deactivate, Activate, Forget, Rebuild, Configure, Destroy, Lost, Advance, Adopt, Patch, Meta, Copied, Member, Mirror, Component, Has, put, put_all, without, without_all, Records, IsState, members, provider, mirror_of, component_of, source_among, same_from, same_is, filter-put, filter_swap, filter_id, one, Has-filter, filter-Has, Seen, is_on_any, metas, clears_of, active_of, patching, new_mirror, first_component, advanced, filling, reach, spare, deactivated, freshened, activated, rebuilt, configured_mirror, configured, Changed, Makes, adopting, no_change, IsGood, filter_agree, any-map, any_from, any_one, some_any, none_any, found_none, not_both, no_members, source_in, adopted, none_from, named, new_name, provider_at, filter-put_all, put_ordered, adopted_on, adopted_mirror_is, Ascends-adopted}
+use Rattle.gm_state.specs.declared.intents.Intent.TheVariants.{Clear}
 use Rattle.gm_refusals.specs.declared.refusals.Refusal.TheVariants as refusals
-use Rattle.gm_refusals.specs.Adoptable.{source_in, adopted}
-use Rattle.gm_refusals.proofs.NothingApplies.{none_from}
-use Rattle.gm_state.proofs.FoundRecords.{named, new_name, provider_at}
-use Rattle.gm_lists.proofs.PutTogether.{filter-put_all, put_ordered}
-use Rattle.gm_refusals.proofs.TakenProviders.{adopted_on, adopted_mirror_is, Ascends-adopted}
 use Rattle.gm_changes.proofs.KeptComponents.{keeps_activated, keeps_advanced, keeps_configured, keeps_deactivated, keeps_freshened, keeps_rebuilt, members_put}
 use Rattle.gm_changes.proofs.PuttingInPlace.{puts_none, puts_nothing, members_in_place, puts_new, puts_one_new, puts_one_changed}
 

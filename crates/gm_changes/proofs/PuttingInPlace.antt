@@ -1,18 +1,6 @@
 -- Changes that put each component once, with the mirror and the number of the one in whose place it
 -- is put.
-use Rattle.std.proofs.Common.{◌≡◌, ◌∙◌, ⊎_elim, true, refl, sym, ap, subst, ℕ, List, [], ◌∷◌, Option, None, Some, IfSome, map}
-use Rattle.gm_state.specs.declared.records.Component.{Component}
-use Rattle.gm_lists.specs.Ordered.{Has, Ascends}
-use Rattle.gm_lists.proofs.Finding.{found, not_both}
-use Rattle.gm_lists.proofs.Lists.{Has-filter, Has-map, Ascends-filter}
-use Rattle.gm_lists.proofs.Mapped.{Ascends-map}
-use Rattle.gm_lists.proofs.Order.{same_from, same_is}
-use Rattle.gm_lists.proofs.Putting.{one}
-use Rattle.gm_state.specs.Records.{Records, IsState, members, provider}
-use Rattle.gm_state.specs.Lookups.{component_of}
-use Rattle.gm_metadata.specs.Images.{same_label}
-use Rattle.gm_state.proofs.FoundRecords.{new_name}
-use Rattle.gm_changes.specs.Decides.{Changed, PutsInPlace}
+use Rattle.gm_changes.proofs.Common.{◌≡◌, ◌∙◌, ⊎_elim, true, refl, sym, ap, subst, ℕ, List, [], ◌∷◌, Option, None, Some, IfSome, map, Component, Has, Ascends, found, not_both, Has-filter, Has-map, Ascends-filter, Ascends-map, same_from, same_is, one, Records, IsState, members, provider, component_of, same_label, new_name, Changed, PutsInPlace}
 use Rattle.gm_changes.proofs.KeptComponents.{Keeps}
 
 -- one alone

@@ -1,17 +1,6 @@
 -- Records put in place of those of their names.
-use Rattle.std.proofs.Common.{◌≡◌, ◌∙◌, ℕ, not, refl, sym, ap, List, ◌∷◌, Option, Some, None, drop, get_or, length, IfSome, IfNone, ◌+◌, ◌<◌}
-use Rattle.std.specs.Str.{bytes_eq}
-use Rattle.std.proofs.lemmas.List.{drop_more}
+use Rattle.gm_changes.proofs.Common.{◌≡◌, ◌∙◌, ℕ, not, refl, sym, ap, List, ◌∷◌, Option, Some, None, drop, get_or, length, IfSome, IfNone, ◌+◌, ◌<◌, bytes_eq, drop_more, Mirror, Component, Ascends, put, put_all, Records, IsState, IsStateOf, name, provider, Ascends-without_all, Ascends-put_all, permuted_is, Ascends-put, Ascends-filter, Changed, changed_by, put_some, without_some}
 use Rattle.std.proofs.lemmas.List.Sorted.{IsPermutation-refl}
-use Rattle.gm_state.specs.declared.records.Mirror.{Mirror}
-use Rattle.gm_state.specs.declared.records.Component.{Component}
-use Rattle.gm_lists.specs.Ordered.{Ascends, put, put_all}
-use Rattle.gm_state.specs.Records.{Records, IsState, IsStateOf, name, provider}
-use Rattle.gm_lists.proofs.PutInPlace.{Ascends-without_all, Ascends-put_all}
-use Rattle.gm_lists.proofs.Sorting.{permuted_is}
-use Rattle.gm_lists.proofs.Putting.{Ascends-put}
-use Rattle.gm_lists.proofs.Lists.{Ascends-filter}
-use Rattle.gm_changes.specs.Decides.{Changed, changed_by, put_some, without_some}
 
 -- one more of the list is put
 pub put_more : (xs : List Component) (i : ℕ) (x : Component) (ys zs : List Component)

@@ -1,17 +1,6 @@
 -- The words of options that were given say which were, and their values.
-use Rattle.std.proofs.Common.{◌≡◌, ◌∙◌, inl, inr, ℕ, ◌<◌, ◌^◌, Bool, true, refl, sym, ap, arith, List, [], ◌∷◌, ◌++◌, append_assoc, Option, Some, None, IfSome, IsTrue, if◌then◌else◌}
-use Rattle.std.specs.Prelude.{⊤, codes}
-use Rattle.std.specs.Fmt.{decimal}
-use Rattle.std.specs.List.{flat_map}
+use Rattle.gm_commands.proofs.Common.{◌≡◌, ◌∙◌, inl, inr, ℕ, ◌<◌, ◌^◌, Bool, true, refl, sym, ap, arith, List, [], ◌∷◌, ◌++◌, append_assoc, Option, Some, None, IfSome, IsTrue, if◌then◌else◌, ⊤, codes, decimal, flat_map, bytes_eq, cases_Bool, balance_name, is_label, BalanceWord, Preference, Settings, SliceFits, PreferenceFits, balance_of_word, on_where, balance_words, given_switch, preference_words, setting_words, slice_words}
 use Rattle.std.specs.Option.{option_map, option_or}
-use Rattle.std.specs.Str.{bytes_eq}
-use Rattle.std.proofs.lemmas.Bool.{cases_Bool}
-use Rattle.gm_metadata.specs.Balance.{balance_name}
-use Rattle.gm_metadata.specs.Labels.{is_label}
-use Rattle.gm_commands.specs.declared.command.BalanceWord.{BalanceWord}
-use Rattle.gm_commands.specs.declared.command.Preference.{Preference}
-use Rattle.gm_commands.specs.declared.command.Settings.{Settings}
-use Rattle.gm_commands.specs.Commands.{SliceFits, PreferenceFits, balance_of_word, on_where, balance_words, given_switch, preference_words, setting_words, slice_words}
 use Rattle.gm_commands.proofs.OneParting.{spaceless, all_spaceless, label_spaceless}
 use Rattle.gm_commands.proofs.OneWord.{same_balance, same_switch, same_number, balance_spaceless, switch_spaceless, number_spaceless}
 

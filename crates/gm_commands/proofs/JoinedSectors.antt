@@ -1,12 +1,9 @@
 -- Sectors are told from their bytes in a row, and these from their digits.
-use Rattle.std.proofs.Common.{◌≡◌, ◌∙◌, inl, inr, ℕ, suc, zero, ◌<◌, ◌/◌, ◌%◌, ◌==◌, nat_lt, Bool, true, refl, sym, ap, arith, List, [], ◌∷◌, ◌++◌, length, get_or, lit<, slice_index, Ok, eqb-true, ltb-true, IsTrue}
-use Rattle.std.specs.List.{list_all}
-use Rattle.std.proofs.lemmas.Bool.{and_parts, and_from, lt-ltb}
+use Rattle.gm_commands.proofs.Common.{◌≡◌, ◌∙◌, inl, inr, ℕ, suc, zero, ◌<◌, ◌/◌, ◌%◌, ◌==◌, nat_lt, Bool, true, refl, sym, ap, arith, List, [], ◌∷◌, ◌++◌, length, get_or, lit<, slice_index, Ok, eqb-true, ltb-true, IsTrue, list_all, and_parts, and_from, lt-ltb, decode_of, encode_lower, lower_digits, AreSectors, is_bytes, is_sector, joined}
 use Rattle.std.proofs.lemmas.List.Elements.{All-get_or}
 use Rattle.std.proofs.lemmas.List.Sums.{AllPass-from_list_all}
-use Rattle.hex.specs.Hex.{decode_of, encode_lower, encode_with, lower_digits}
+use Rattle.hex.specs.Hex.{encode_with}
 use Rattle.hex.proofs.HexLemmas.{decode_of-encode_lower}
-use Rattle.gm_commands.specs.Sectors.{AreSectors, is_bytes, is_sector, joined}
 
 -- a list of bytes passes the test, and what passes it is bytes
 pub are_bytes : (xs : List ℕ) → ((i : ℕ) → get_or xs i 0 < 256) → is_bytes xs ≡ true

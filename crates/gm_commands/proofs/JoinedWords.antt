@@ -1,12 +1,5 @@
 -- Words that are joined by a byte.
-use Rattle.std.proofs.Common.{◌≡◌, ◌∙◌, ℕ, not, refl, sym, ap, List, [], ◌∷◌, ◌++◌, append_assoc, append-nil, Result, Ok, Err, IfOk, length, ◌<◌, arith}
-use Rattle.std.specs.Prelude.{codes}
-use Rattle.std.specs.List.{join_by, join_with_byte}
-use Rattle.std.specs.Fmt.{decimal}
-use Rattle.gm_metadata.specs.Balance.{balance_name}
-use Rattle.gm_commands.specs.declared.command.NewMirror.{NewMirror}
-use Rattle.gm_commands.specs.declared.command.Command.TheVariants.{Label}
-use Rattle.gm_commands.specs.Commands.{balance_of_word, on_where, number_words, switch_words, spaced, words_of}
+use Rattle.gm_commands.proofs.Common.{◌≡◌, ◌∙◌, ℕ, not, refl, sym, ap, List, [], ◌∷◌, ◌++◌, append_assoc, append-nil, Result, Ok, Err, IfOk, length, ◌<◌, arith, codes, join_by, join_with_byte, decimal, balance_name, NewMirror, Label, balance_of_word, on_where, number_words, switch_words, spaced, words_of}
 
 -- two parts of a line
 pub join_two : (c : ℕ) (a : List ℕ) (xs : List (List ℕ)) (b : List ℕ) (ys : List (List ℕ))

@@ -1,3 +1,4 @@
+pub mod Common
 pub mod GivenOptions
 pub mod JoinedSectors
 pub mod JoinedWords

@@ -1,10 +1,5 @@
 -- Commands with one line of words are one command.
-use Rattle.std.proofs.Common.{◌≡◌, ◌≢◌, ◌∙◌, ℕ, ◌+◌, ◌<◌, ◌^◌, ◌==◌, not, true, false, refl, sym, ap, arith, List, [], ◌∷◌, ◌++◌, get_or, true≢false, eq-eqb}
-use Rattle.std.specs.List.{join_with_byte}
-use Rattle.gm_commands.specs.declared.command.Command.{Command}
-use Rattle.gm_commands.specs.declared.command.Command.TheVariants.{Label, Insert, Remove, Deactivate, Activate, Forget, Rebuild, Configure, Clear, Destroy, Lost, Advance, Adopt, Patch}
-use Rattle.gm_commands.specs.Commands.{CommandFits, setting_words, words, words_of}
-use Rattle.gm_commands.specs.Sectors.{joined}
+use Rattle.gm_commands.proofs.Common.{◌≡◌, ◌≢◌, ◌∙◌, ℕ, ◌+◌, ◌<◌, ◌^◌, ◌==◌, not, true, false, refl, sym, ap, arith, List, [], ◌∷◌, ◌++◌, get_or, true≢false, eq-eqb, join_with_byte, Command, Label, Insert, Remove, Deactivate, Activate, Forget, Rebuild, Configure, Clear, Destroy, Lost, Advance, Adopt, Patch, CommandFits, setting_words, words, words_of, joined}
 use Rattle.gm_commands.proofs.GivenOptions.{same_settings, settings_spaceless, last_word}
 use Rattle.gm_commands.proofs.OneWord.{same_balance, same_switch, same_off, same_flags, same_number, balance_spaceless, switch_spaceless, number_spaceless}
 use Rattle.gm_commands.proofs.JoinedSectors.{joined_bytes, same_sectors}

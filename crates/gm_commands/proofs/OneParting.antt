@@ -1,16 +1,7 @@
 -- A line is joined from just one list of words without spaces.
-use Rattle.std.proofs.Common.{◌≡◌, ◌∙◌, inl, inr, ℕ, ◌<◌, ◌^◌, ◌&&◌, ◌==◌, not, Bool, true, false, refl, sym, ap, List, [], ◌∷◌, ◌++◌, true≢false, eqb-true, length}
-use Rattle.std.specs.List.{join_with_byte, list_all}
-use Rattle.std.specs.Str.{all_ascii_digits}
+use Rattle.gm_commands.proofs.Common.{◌≡◌, ◌∙◌, inl, inr, ℕ, ◌<◌, ◌^◌, ◌&&◌, ◌==◌, not, Bool, true, false, refl, sym, ap, List, [], ◌∷◌, ◌++◌, true≢false, eqb-true, length, join_with_byte, list_all, all_ascii_digits, decimal, cases_Bool, and_parts, and_from, digits_decimal, is_label, is_label_byte, nat_lt, IsTrue, encode_lower, is_bytes}
 use Rattle.std.specs.Char.{is_ascii_digit}
-use Rattle.std.specs.Fmt.{decimal}
-use Rattle.std.proofs.lemmas.Bool.{cases_Bool, and_parts, and_from}
-use Rattle.std.proofs.lemmas.Fmt.{digits_decimal}
 use Rattle.std.proofs.lemmas.Str.Parse.{numerals_by_value, tells_all_ascii_digits}
-use Rattle.gm_metadata.specs.Labels.{is_label, is_label_byte}
-use Rattle.std.specs.Prelude.{nat_lt, IsTrue}
-use Rattle.hex.specs.Hex.{encode_lower}
-use Rattle.gm_commands.specs.Sectors.{is_bytes}
 use Rattle.gm_commands.proofs.JoinedSectors.{digits_pass}
 
 -- no space in it

@@ -1,12 +1,6 @@
 -- A word says its value, and has no space in it.
-use Rattle.std.proofs.Common.{◌≡◌, ◌∙◌, ℕ, ◌<◌, ◌^◌, ◌==◌, not, Bool, true, false, cond, refl, sym, ap, arith, List, get_or}
-use Rattle.std.specs.Fmt.{decimal}
-use Rattle.std.proofs.lemmas.Fmt.{decimal_injective}
-use Rattle.gm_metadata.specs.Balance.{balance_name}
+use Rattle.gm_commands.proofs.Common.{◌≡◌, ◌∙◌, ℕ, ◌<◌, ◌^◌, ◌==◌, not, Bool, true, false, cond, refl, sym, ap, arith, List, get_or, decimal, decimal_injective, balance_name, BalanceWord, Load, Prefer, RoundRobin, Split, balance_of_word, on_where}
 use Rattle.gm_metadata.specs.declared.flags.MirrorFlags.{MirrorFlags}
-use Rattle.gm_commands.specs.declared.command.BalanceWord.{BalanceWord}
-use Rattle.gm_commands.specs.declared.command.BalanceWord.TheVariants.{Load, Prefer, RoundRobin, Split}
-use Rattle.gm_commands.specs.Commands.{balance_of_word, on_where}
 use Rattle.gm_commands.proofs.OneParting.{spaceless, decimal_spaceless}
 
 word_back : List ℕ → BalanceWord

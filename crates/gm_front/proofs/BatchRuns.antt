@@ -1,26 +1,9 @@
 -- A batch as a part of a schedule, by induction over its lines.
-use Rattle.std.proofs.Common.{◌≡◌, ◌∙◌, ◌⊎◌, inl, inr, ℕ, Bool, List, [], ◌∷◌, ◌++◌, Option, Result, Ok, Err, refl, sym, ap, subst, subst₂}
-use Rattle.sqlite_trees.specs.declared.store.Store.{Ghosts}
-use Rattle.sqlite.specs.Held.{Held}
-use Rattle.sqlite.specs.Tree.{Trees}
-use Rattle.gm_metadata.specs.Images.{Image, Sizes}
+use Rattle.gm_front.proofs.Common.{◌≡◌, ◌∙◌, ◌⊎◌, inl, inr, ℕ, Bool, List, [], ◌∷◌, ◌++◌, Option, Result, Ok, Err, refl, sym, ap, subst, subst₂, Ghosts, Held, Trees, Image, Sizes, Command, World, Step, LeavesRun, ArePending, AtRest, Entry, Handed_in, IsButMoved, IsLeftIn, Reached, Stopped, Within, keeps, none, skips, LeavesNext, accept_stopped, reached_done, run_stopped, settling_stopped, stopped, one_step, stays, BatchEnd, FrontFault, Answers, AreAnswered, AreCarriedOut, AreUnsettled, Batches, IsLast, Replies, Stops, with_asked, calls_of, StopsAtLine, BatchLeaves, AreCarriedBehind, IsAtRestBehind, IsNextStop, IsStoppedAt, IsStoppedSettling, with_calls, Asked, Nothing, Wrong, Call, asked}
 use Rattle.gm_shelf.specs.declared.shelf.Shelf.{Ghosts as ShelfGhosts}
-use Rattle.gm_commands.specs.declared.command.Command.{Command}
-use Rattle.gm_state.specs.World.{World}
 use Rattle.gm_rules.specs.AbstractCalls as run
-use Rattle.gm_rules.specs.Step.{Step}
-use Rattle.gm_bench.specs.Owed.{LeavesRun}
-use Rattle.gm_bench.specs.Schedule.{ArePending, AtRest, Entry, Handed_in, IsButMoved, IsLeftIn, Reached, Stopped, Within, keeps, none, skips}
-use Rattle.gm_bench.specs.Standing.{LeavesNext}
-use Rattle.gm_bench.proofs.Induction.{accept_stopped, at_rest as reached_at_rest, reached_done, run_stopped, settling_stopped, stopped}
-use Rattle.gm_bench.proofs.MovedWorlds.{one_step, stays}
-use Rattle.gm_front.specs.declared.answer_lines.BatchEnd.{BatchEnd}
+use Rattle.gm_bench.proofs.Induction.{at_rest as reached_at_rest}
 use Rattle.gm_front.specs.declared.answer_lines.BatchEnd.TheVariants as end
-use Rattle.gm_front.specs.declared.answer_lines.FrontFault.{FrontFault}
-use Rattle.gm_front.specs.Batch.{Answers, AreAnswered, AreCarriedOut, AreUnsettled, Batches, IsLast, Replies, Stops}
-use Rattle.gm_front.specs.BatchRuns.{with_asked, calls_of, StopsAtLine, BatchLeaves}
-use Rattle.gm_front.specs.HandedIn.{AreCarriedBehind, IsAtRestBehind, IsNextStop, IsStoppedAt, IsStoppedSettling, with_calls}
-use Rattle.gm_lines.specs.Asked.{Asked, Nothing, Wrong, Call, asked}
 
 -- one more call, handed in last
 with_last : (calls : List run.Call) (call : run.Call) (entries : List Entry)

@@ -1,29 +1,9 @@
 -- What a bench at rest shows is the world's.
-use Rattle.std.proofs.Common.{◌≡◌, [], ap, subst, Option, Some, Result, Ok, Err}
-use Rattle.std.specs.Result.{OnOk}
-use Rattle.sqlite_trees.specs.declared.store.Store.{Ghosts}
+use Rattle.gm_front.proofs.Common.{◌≡◌, [], ap, subst, Option, Some, Result, Ok, Err, OnOk, Ghosts, Held, Image, IsLawful, World, AreRecordsOf, AreTablesOf, DiskKept, Bench, BenchFault, Store, Unreadable, registry_of, shelf_of, LooksOn, whole, LookDoes, IsAt, LeavesOnly, looked_at, tables_of, Demand, Fails, LeavesDemand}
 use Rattle.sqlite_trees.specs.declared.store.Store.{Ghosts as StoreGhosts}
-use Rattle.sqlite.specs.Held.{Held}
-use Rattle.gm_metadata.specs.Images.{Image}
-use Rattle.gm_shelf.specs.Disk.{IsLawful}
 use Rattle.gm_shelf.specs.declared.shelf.Shelf.{Ghosts as ShelfGhosts}
-use Rattle.gm_state.specs.World.{World}
-use Rattle.gm_rows.specs.ReadableTables.{AreRecordsOf, AreTablesOf}
-use Rattle.gm_registry.specs.Registry.{DiskKept}
-use Rattle.gm_bench.specs.declared.bench.Bench.{Bench}
-use Rattle.gm_bench.specs.declared.fault.BenchFault.{BenchFault}
-use Rattle.gm_bench.specs.declared.fault.BenchFault.TheVariants.{Store, Unreadable}
-use Rattle.gm_bench.specs.Benches.{registry_of, shelf_of}
-use Rattle.gm_bench.specs.Calls.{LooksOn}
-use Rattle.gm_bench.specs.Leading.{whole}
-use Rattle.gm_bench.specs.Owed.{LookDoes}
-use Rattle.gm_bench.specs.Recovering.{IsAt, LeavesOnly}
 use Rattle.gm_bench.proofs.CarriedOut.{done_at_rest}
 use Rattle.gm_bench.proofs.GatheredFacts.{are_records}
-use Rattle.gm_bench.proofs.Looks.{looked_at}
-use Rattle.gm_bench.proofs.ReadTables.{tables_of}
-use Rattle.gm_front.specs.Demands.{Demand}
-use Rattle.gm_front.specs.Findings.{Fails, LeavesDemand}
 
 module _ {S H : Type 0} (g : Ghosts S) (j : ShelfGhosts H) (r : Held S) (h : H)
     (away : Image) (u : World) (at : IsAt g j r h away [] [] u u)

@@ -1,4 +1,5 @@
 pub mod BatchRuns
+pub mod Common
 pub mod Found
 pub mod ManyLooks
 pub mod NextLines

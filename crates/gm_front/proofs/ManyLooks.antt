@@ -1,24 +1,10 @@
 -- Looks one after another, as one look.
-use Rattle.std.proofs.Common.{◌≡◌, ◌∙◌, ℕ, List, Result, Ok, Err, arith, refl, subst}
-use Rattle.std.specs.Result.{OnOk}
-use Rattle.sqlite_trees.specs.declared.store.Store.{Ghosts}
-use Rattle.gm_shelf.specs.Disk.{IsLawful}
-use Rattle.gm_shelf.specs.Keeping.{ReadsOnly}
+use Rattle.gm_front.proofs.Common.{◌≡◌, ◌∙◌, ℕ, List, Result, Ok, Err, arith, refl, subst, OnOk, Ghosts, IsLawful, ReadsOnly, Command, DiskKept, registry_of, shelf_of, LooksOn, LookDoes, Bench, BenchFault, read_only, OnlyLooks, Call}
 use Rattle.gm_shelf.specs.declared.shelf.Shelf.{Ghosts as ShelfGhosts}
 use Rattle.gm_shelf.proofs.InTurn.{quiet_moment}
 use Rattle.gm_shelf.proofs.Keeping.{only_then}
-use Rattle.gm_commands.specs.declared.command.Command.{Command}
-use Rattle.gm_registry.specs.Registry.{DiskKept}
 use Rattle.gm_registry.proofs.CallsLeave.{IsSettling, saved}
-use Rattle.gm_bench.specs.Benches.{registry_of, shelf_of}
-use Rattle.gm_bench.specs.Calls.{LooksOn}
-use Rattle.gm_bench.specs.Owed.{LookDoes}
-use Rattle.gm_bench.specs.declared.bench.Bench.{Bench}
-use Rattle.gm_bench.specs.declared.fault.BenchFault.{BenchFault}
 use Rattle.gm_bench.proofs.DecidesOnly.{nothing_then}
-use Rattle.gm_bench.proofs.RegistryLeaves.{read_only}
-use Rattle.gm_front.specs.Guards.{OnlyLooks}
-use Rattle.gm_lines.specs.Asked.{Call}
 
 on_ok : {T E A B : Type 0} (r : Result T E) → OnOk r A → (A → B) → OnOk r B
 on_ok (Ok x) a f = f a

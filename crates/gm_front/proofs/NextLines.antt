@@ -1,20 +1,7 @@
 -- A command that is handed in after one that is perhaps still to be settled.
-use Rattle.std.proofs.Common.{◌≡◌, ◌∙◌, inl, inr, ℕ, List, [], Ok, Err, Result, refl, sym, subst, IsErrAnd, IfErr}
-use Rattle.sqlite_trees.specs.declared.store.Store.{Ghosts}
-use Rattle.sqlite.specs.Held.{Held}
-use Rattle.gm_metadata.specs.Images.{Image}
+use Rattle.gm_front.proofs.Common.{◌≡◌, ◌∙◌, inl, inr, ℕ, List, [], Ok, Err, Result, refl, sym, subst, IsErrAnd, IfErr, Ghosts, Held, Image, Command, World, Answer, Progress, TakesCommands, IsAt, LeavesOnly, IsHandedIn, LeavesNext, Stands, then_only, stands_rest, IsAnsweredNext}
 use Rattle.gm_shelf.specs.declared.shelf.Shelf.{Ghosts as ShelfGhosts}
-use Rattle.gm_commands.specs.declared.command.Command.{Command}
-use Rattle.gm_state.specs.World.{World}
-use Rattle.gm_bench.specs.declared.answer.Answer.{Answer}
 use Rattle.gm_bench.specs.declared.answer.Answer.TheVariants.{Done, Repeated, Refused}
-use Rattle.gm_bench.specs.declared.phase.Progress.{Progress}
-use Rattle.gm_bench.specs.Phases.{TakesCommands}
-use Rattle.gm_bench.specs.Recovering.{IsAt, LeavesOnly}
-use Rattle.gm_bench.specs.Standing.{IsHandedIn, LeavesNext, Stands}
-use Rattle.gm_bench.proofs.RegistryLeaves.{then_only}
-use Rattle.gm_bench.proofs.Standing.{stands_rest}
-use Rattle.gm_front.specs.Outcomes.{IsAnsweredNext}
 
 -- what `?` passes on is told of the fault that it was given
 pub passed_on : {T E : Type 0} (P : E → Type 0) (r : Result T E) (given : E)

@@ -1,15 +1,6 @@
 -- What a page is told, and what is owed of it.
-use Rattle.std.proofs.Common.{◌≡◌, ◌∙◌, ℕ, List, [], refl, sym, ap, append-nil, Option, Some, None, Result, Ok, Err, IfSome}
-use Rattle.std.specs.Prelude.{IfOk, IfErr, OnErr}
-use Rattle.std.specs.Io.KnownBytes.{Appends, Keeps}
-use Rattle.gm_http.specs.Responses.{code_of}
-use Rattle.gm_http.specs.Senders.{IsFromPage, Sends}
+use Rattle.gm_front.proofs.Common.{◌≡◌, ◌∙◌, ℕ, List, [], refl, sym, ap, append-nil, Option, Some, None, Result, Ok, Err, IfSome, IfOk, IfErr, OnErr, Appends, Keeps, code_of, IsFromPage, Sends, FrontFault, Memory, Read, Write, Response, AppendsFront, TurnsAway, bytes_of, code_told, page_told}
 use Rattle.gm_http.specs.declared.sender.Sender.TheVariants.{Program}
-use Rattle.gm_front.specs.declared.answer_lines.FrontFault.{FrontFault}
-use Rattle.gm_front.specs.declared.answer_lines.FrontFault.TheVariants.{Memory, Read, Write}
-use Rattle.gm_front.specs.declared.service.Response.{Response}
-use Rattle.gm_front.specs.Batch.{AppendsFront}
-use Rattle.gm_front.specs.Services.{TurnsAway, bytes_of, code_told, page_told}
 
 -- what was written of the answer to a page
 pub told_page : (before now : Option (List ℕ)) (told : Result Response FrontFault)

@@ -1,23 +1,8 @@
 -- What serving a request comes to, by what was found and what was written of it.
-use Rattle.std.proofs.Common.{◌≡◌, inr, ℕ, List, refl, ap, Option, Result, Ok, Err, IfSome}
-use Rattle.std.specs.Prelude.{IfOk, IfErr, OnErr}
-use Rattle.std.specs.Io.KnownBytes.{Appends}
-use Rattle.sqlite_trees.specs.declared.store.Store.{Ghosts}
-use Rattle.sqlite.specs.Held.{Held}
-use Rattle.gm_metadata.specs.Images.{Image}
+use Rattle.gm_front.proofs.Common.{◌≡◌, inr, ℕ, List, refl, ap, Option, Result, Ok, Err, IfSome, IfOk, IfErr, OnErr, Appends, Ghosts, Held, Image, World, Asks, code_of, FrontFault, Memory, Read, Write, Finding, Response, AppendsFront, demand_of, ComesToFinding, fault_of, told_of, Serves, Tells, bytes_of, code_told}
 use Rattle.gm_shelf.specs.declared.shelf.Shelf.{Ghosts as ShelfGhosts}
-use Rattle.gm_state.specs.World.{World}
-use Rattle.gm_http.specs.Requests.{Asked, Asks}
-use Rattle.gm_http.specs.Responses.{code_of}
-use Rattle.gm_front.specs.declared.answer_lines.FrontFault.{FrontFault}
-use Rattle.gm_front.specs.declared.answer_lines.FrontFault.TheVariants.{Memory, Read, Write}
-use Rattle.gm_front.specs.declared.finding.Finding.{Finding}
+use Rattle.gm_http.specs.Requests.{Asked}
 use Rattle.gm_front.specs.declared.finding.Finding.TheVariants.{Failed}
-use Rattle.gm_front.specs.declared.service.Response.{Response}
-use Rattle.gm_front.specs.Batch.{AppendsFront}
-use Rattle.gm_front.specs.Demands.{demand_of}
-use Rattle.gm_front.specs.Findings.{ComesToFinding, fault_of, told_of}
-use Rattle.gm_front.specs.Services.{Serves, Tells, bytes_of, code_told}
 
 module _ {S H : Type 0} (g : Ghosts S) (j : ShelfGhosts H)
     (input before now : Option (List ℕ)) (r s : Held S) (h k : H) (away : Image) (u : World)

@@ -1,25 +1,6 @@
 -- A request as a part of a schedule.
-use Rattle.std.proofs.Common.{◌≡◌, inl, inr, ℕ, List, [], Option, Some, None, Result, Ok, Err, sym, subst}
-use Rattle.std.specs.Io.KnownBytes.{Appends}
-use Rattle.sqlite_trees.specs.declared.store.Store.{Ghosts}
-use Rattle.sqlite.specs.Held.{Held}
-use Rattle.sqlite.specs.Tree.{Trees}
-use Rattle.gm_metadata.specs.Images.{Image, Sizes}
+use Rattle.gm_front.proofs.Common.{◌≡◌, inl, inr, ℕ, List, [], Option, Some, None, Result, Ok, Err, sym, subst, Appends, Ghosts, Held, Trees, Image, Sizes, World, BenchFault, IsAt, LeavesOnly, Entry, IsStop, none, AtRest, Stopped, stopped, stays, FrontFault, Memory, Read, Write, AppendsFront, Demand, TurnedDown, AllMirrors, OneMirror, LastSector, NoCommand, Carry, Told, Responds, demand_of, Fails, IsAtRestBehind, calls_in, IsStoppedIn, IsServed, ServedLeaves, ServedUnlessPage, Serves, ServesUnlessPage, Tells}
 use Rattle.gm_shelf.specs.declared.shelf.Shelf.{Ghosts as ShelfGhosts}
-use Rattle.gm_state.specs.World.{World}
-use Rattle.gm_bench.specs.declared.fault.BenchFault.{BenchFault}
-use Rattle.gm_bench.specs.Recovering.{IsAt, LeavesOnly}
-use Rattle.gm_bench.specs.Schedule.{Entry, IsStop, none, AtRest, Stopped}
-use Rattle.gm_bench.proofs.Induction.{stopped}
-use Rattle.gm_bench.proofs.MovedWorlds.{stays}
-use Rattle.gm_front.specs.declared.answer_lines.FrontFault.{FrontFault}
-use Rattle.gm_front.specs.declared.answer_lines.FrontFault.TheVariants.{Memory, Read, Write}
-use Rattle.gm_front.specs.Batch.{AppendsFront}
-use Rattle.gm_front.specs.Demands.{Demand, TurnedDown, AllMirrors, OneMirror, LastSector, NoCommand, Carry, Told, Responds, demand_of}
-use Rattle.gm_front.specs.Findings.{Fails}
-use Rattle.gm_front.specs.HandedIn.{IsAtRestBehind}
-use Rattle.gm_front.specs.ServedRuns.{calls_in, IsStoppedIn, IsServed, ServedLeaves, ServedUnlessPage}
-use Rattle.gm_front.specs.Services.{Serves, ServesUnlessPage, Tells}
 use Rattle.gm_front.proofs.BatchRuns.{one_call, stopped_at}
 
 module _ {S H : Type 0} (g : Ghosts S) (j : ShelfGhosts H) (all : Sizes)

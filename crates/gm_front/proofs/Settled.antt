@@ -1,25 +1,10 @@
 -- The end of a batch, after what was still to be settled is settled.
-use Rattle.std.proofs.Common.{◌≡◌, ◌∙◌, inl, inr, ℕ, Bool, List, [], Option, Some, None, Result, Ok, Err, IfOk, refl, sym, ap, subst, append-nil}
+use Rattle.gm_front.proofs.Common.{◌≡◌, ◌∙◌, inl, inr, ℕ, Bool, List, [], Option, Some, None, Result, Ok, Err, IfOk, refl, sym, ap, subst, append-nil, Ghosts, Held, Image, World, Bench, Progress, Ready, Pending, Applied, Failed, SettleDoes, SettleLeaves, TakesCommands, TakesNext, phase_of, rest_stands, BatchEnd, FrontFault, BenchFault, end_fault, AreAnswered, AreFirst, AreLines, AreStanding, AreUnsettled, Batches, HandsIn, IsFarAtEnd, progress_at, unsettled_fault}
 use Rattle.std.specs.Prelude.{OnOk}
-use Rattle.sqlite_trees.specs.declared.store.Store.{Ghosts}
-use Rattle.sqlite.specs.Held.{Held}
-use Rattle.gm_metadata.specs.Images.{Image}
 use Rattle.gm_shelf.specs.declared.shelf.Shelf.{Ghosts as ShelfGhosts}
-use Rattle.gm_state.specs.World.{World}
 use Rattle.gm_bench.specs.declared.answer.Work.{Work}
-use Rattle.gm_bench.specs.declared.bench.Bench.{Bench}
 use Rattle.gm_bench.specs.declared.phase.Phase.TheVariants as phase
-use Rattle.gm_bench.specs.declared.phase.Progress.{Progress}
-use Rattle.gm_bench.specs.declared.phase.Progress.TheVariants.{Ready, Pending, Applied, Failed}
-use Rattle.gm_bench.specs.Owed.{SettleDoes, SettleLeaves}
-use Rattle.gm_bench.specs.Phases.{TakesCommands, TakesNext, phase_of}
-use Rattle.gm_bench.proofs.Standing.{rest_stands}
-use Rattle.gm_front.specs.declared.answer_lines.BatchEnd.{BatchEnd}
 use Rattle.gm_front.specs.declared.answer_lines.BatchEnd.TheVariants as end
-use Rattle.gm_front.specs.declared.answer_lines.FrontFault.{FrontFault}
-use Rattle.gm_bench.specs.declared.fault.BenchFault.{BenchFault}
-use Rattle.gm_front.specs.Closing.{end_fault}
-use Rattle.gm_front.specs.Batch.{AreAnswered, AreFirst, AreLines, AreStanding, AreUnsettled, Batches, HandsIn, IsFarAtEnd, progress_at, unsettled_fault}
 use Rattle.gm_front.proofs.Turns.{carried}
 
 -- what is carried out, by the phase that a caller sees

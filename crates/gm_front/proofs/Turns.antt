@@ -1,43 +1,20 @@
 -- One line of a batch after the other.
-use Rattle.std.proofs.Common.{◌≡◌, ◌≢◌, ◌∙◌, ◌⊎◌, inl, inr, ◌<◌, ◌≤◌, ◌||◌, ◌+◌, nat_lt, ℕ, Bool, true, false, refl, sym, ap, subst, subst₂, arith, List, [], ◌∷◌, ◌++◌, codes, length, take, replicate, Option, Some, None, IfSome, append-nil}
-use Rattle.std.proofs.lemmas.List.{append_assoc, length-replicate}
+use Rattle.gm_front.proofs.Common.{◌≡◌, ◌≢◌, ◌∙◌, ◌⊎◌, inl, inr, ◌<◌, ◌≤◌, ◌||◌, ◌+◌, nat_lt, ℕ, Bool, true, false, refl, sym, ap, subst, subst₂, arith, List, [], ◌∷◌, ◌++◌, codes, length, take, replicate, Option, Some, None, IfSome, append-nil, append_assoc, length-replicate, Appends, Appends-trans, Appends-nil, Ghosts, Held, Image, Command, World, Step, DiskKept, WasClean, BenchFault, Answer, Progress, TakesCommands, TakesNext, phase_of, Stands, carried_so, stands_rest, IsAt, FrontFault, Memory, Read, Write, End, Whole, Long, Outcome, Answered, refusal_line, Asked, asked_at, IsLine, line_at, Replies, Answers, AppendsFront, AreCarriedOut, AreFirst, AreLines, AreStanding, Breaks, Ends, IsLast, Stops, IsFarAfter, IsWaiting, NextComesTo, is_refused, text_of}
 use Rattle.std.proofs.lemmas.Bool.Decides.{nat_tests}
 use Rattle.std.specs.Borrow.{Bor}
 use Rattle.std.specs.Io.BufRead.{drop_through}
-use Rattle.std.specs.Io.KnownBytes.{Appends}
-use Rattle.std.proofs.KnownBytes.{Appends-trans, Appends-nil}
-use Rattle.sqlite_trees.specs.declared.store.Store.{Ghosts}
-use Rattle.sqlite.specs.Held.{Held}
-use Rattle.gm_metadata.specs.Images.{Image}
 use Rattle.gm_shelf.specs.declared.shelf.Shelf.{Ghosts as ShelfGhosts}
-use Rattle.gm_commands.specs.declared.command.Command.{Command}
 use Rattle.gm_state.specs.declared.intents.Reply.{Reply}
-use Rattle.gm_state.specs.World.{World}
 use Rattle.gm_rules.specs.AbstractCalls as run
-use Rattle.gm_rules.specs.Step.{Step}
-use Rattle.gm_registry.specs.Registry.{DiskKept, WasClean}
-use Rattle.gm_bench.specs.declared.fault.BenchFault.{BenchFault}
-use Rattle.gm_bench.specs.declared.answer.Answer.{Answer}
 use Rattle.gm_bench.specs.declared.answer.Answer.TheVariants as bench
-use Rattle.gm_bench.specs.declared.phase.Progress.{Progress}
 use Rattle.gm_bench.specs.declared.phase.Progress.TheVariants as progress
-use Rattle.gm_bench.specs.Phases.{TakesCommands, TakesNext, phase_of}
 use Rattle.gm_bench.specs.Running.{answer_of}
-use Rattle.gm_bench.specs.Standing.{Stands}
-use Rattle.gm_bench.proofs.Standing.{carried_so, stands_rest}
-use Rattle.gm_bench.specs.Recovering.{IsAt}
-use Rattle.gm_front.specs.declared.answer_lines.FrontFault.{FrontFault}
-use Rattle.gm_front.specs.declared.answer_lines.FrontFault.TheVariants.{Memory, Read, Write}
 use Rattle.gm_lines.specs.declared.lines.Line.{Line}
-use Rattle.gm_lines.specs.declared.lines.Line.TheVariants.{End, Whole, Long}
-use Rattle.gm_front.specs.declared.outcome.Outcome.{Outcome}
-use Rattle.gm_front.specs.declared.outcome.Outcome.TheVariants.{Nothing, Wrong, Answered, Failed}
-use Rattle.gm_front.specs.Told.{refusal_line}
+use Rattle.gm_front.specs.declared.outcome.Outcome.TheVariants.{Nothing, Wrong, Failed}
 use Rattle.gm_lines.specs.Asked as asking
-use Rattle.gm_lines.specs.Asked.{Asked, asked, asked_at}
-use Rattle.gm_lines.specs.Input.{IsLine, line_at, lines_of}
-use Rattle.gm_front.specs.Batch.{Replies, Answers, AppendsFront, AreCarriedOut, AreFirst, AreLines, AreStanding, Breaks, Ends, IsLast, Stops, Tells}
-use Rattle.gm_front.specs.Outcomes.{IsFarAfter, IsWaiting, NextComesTo, is_refused, text_of}
+use Rattle.gm_lines.specs.Asked.{asked}
+use Rattle.gm_lines.specs.Input.{lines_of}
+use Rattle.gm_front.specs.Batch.{Tells}
 use Rattle.gm_lines.proofs.TakenLines.{lines_first}
 
 or_false : (b : Bool) → (b || false) ≡ b

@@ -1,29 +1,8 @@
 -- Commands that are withheld, and requests that are served so.
-use Rattle.std.proofs.Common.{◌≡◌, inl, inr, refl, ap, subst, ℕ, List, Option, Result, Ok, Err, IfSome}
-use Rattle.std.specs.Prelude.{IfOk, IfErr, OnErr}
-use Rattle.std.specs.Io.KnownBytes.{Appends}
-use Rattle.sqlite_trees.specs.declared.store.Store.{Ghosts}
-use Rattle.sqlite.specs.Held.{Held}
-use Rattle.gm_metadata.specs.Images.{Image}
+use Rattle.gm_front.proofs.Common.{◌≡◌, inl, inr, refl, ap, subst, ℕ, List, Option, Result, Ok, Err, IfSome, IfOk, IfErr, OnErr, Appends, Ghosts, Held, Image, Command, World, Asks, code_of, registry_of, shelf_of, LeavesRun, LeavesOnly, Bench, FrontFault, Memory, Read, Write, Finding, Response, AppendsFront, Carry, Demand, Told, demand_of, IsPut, fault_of, told_of, withheld_told, FindsUnlessWithheld, FoundBehindLook, HadNothing, HasNothingInTheWay, ServesOrWithholds, TellsOf, bytes_of, code_told}
 use Rattle.gm_shelf.specs.declared.shelf.Shelf.{Ghosts as ShelfGhosts}
-use Rattle.gm_commands.specs.declared.command.Command.{Command}
-use Rattle.gm_state.specs.World.{World}
-use Rattle.gm_http.specs.Requests.{Asked, Asks}
-use Rattle.gm_http.specs.Responses.{code_of}
-use Rattle.gm_bench.specs.Benches.{registry_of, shelf_of}
-use Rattle.gm_bench.specs.Owed.{LeavesRun}
-use Rattle.gm_bench.specs.Recovering.{LeavesOnly}
-use Rattle.gm_bench.specs.declared.bench.Bench.{Bench}
-use Rattle.gm_front.specs.declared.answer_lines.FrontFault.{FrontFault}
-use Rattle.gm_front.specs.declared.answer_lines.FrontFault.TheVariants.{Memory, Read, Write}
-use Rattle.gm_front.specs.declared.finding.Finding.{Finding}
+use Rattle.gm_http.specs.Requests.{Asked}
 use Rattle.gm_front.specs.declared.finding.Finding.TheVariants as finding
-use Rattle.gm_front.specs.declared.service.Response.{Response}
-use Rattle.gm_front.specs.Batch.{AppendsFront}
-use Rattle.gm_front.specs.Demands.{Carry, Demand, Told, demand_of}
-use Rattle.gm_front.specs.Findings.{IsPut, fault_of, told_of, withheld_told}
-use Rattle.gm_front.specs.GuardedServices.{FindsUnlessWithheld, FoundBehindLook, HadNothing, HasNothingInTheWay, ServesOrWithholds, TellsOf}
-use Rattle.gm_front.specs.Services.{bytes_of, code_told}
 use Rattle.gm_front.proofs.RequestsServed.{served}
 
 -- what a look that failed leaves, a command may leave that isn't accepted

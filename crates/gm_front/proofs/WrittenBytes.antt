@@ -1,10 +1,6 @@
 -- Bytes that are written in several writes.
-use Rattle.std.proofs.Common.{◌≡◌, ◌+◌, ◌∙◌, ℕ, sym, ap, subst, List, length, take, drop, Option, Some, None}
-use Rattle.std.proofs.lemmas.List.{take-append-drop}
+use Rattle.gm_front.proofs.Common.{◌≡◌, ◌+◌, ◌∙◌, ℕ, sym, ap, subst, List, length, take, drop, Option, Some, None, take-append-drop, Appends-trans, Appends, AppendsFront}
 use Rattle.std.proofs.Math.Seq.{take-add, take-length}
-use Rattle.std.proofs.KnownBytes.{Appends-trans}
-use Rattle.std.specs.Io.KnownBytes.{Appends}
-use Rattle.gm_front.specs.Batch.{AppendsFront}
 
 pub front_appended : (a b : Option (List ℕ)) (k : ℕ) (bytes : List ℕ) → Appends a b (take k bytes)
     → AppendsFront a b bytes

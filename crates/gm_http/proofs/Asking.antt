@@ -1,23 +1,6 @@
 -- What is asked, by what was read of an input.
-use Rattle.std.proofs.Common.{◌≡◌, ◌∙◌, ◌≤◌, ◌+◌, ℕ, Bool, true, false, sym, ap, refl, arith, inl, inr, List, ◌++◌, length, take, drop, map, Option, Some, None, Result, Ok, Err, IfOk, IfSome, append_assoc, length-append, nat_lt}
-use Rattle.std.specs.Prelude.{slice_range}
-use Rattle.std.specs.Str.{bytes_eq}
-use Rattle.std.proofs.lemmas.Bool.Decides.{nat_tests}
-use Rattle.std.proofs.lemmas.List.{length-drop, take-append-le, drop-append-le}
-use Rattle.httparse.proofs.GrammarLemmas.{request_unique}
-use Rattle.httparse.specs.Grammar.{RequestHead}
-use Rattle.httparse.specs.Spans.{IsRequestAt, header_bytes, span_bytes}
-use Rattle.httparse.specs.declared.spans.HeaderSpan.{HeaderSpan}
-use Rattle.httparse.specs.declared.spans.RequestSpans.{RequestSpans}
-use Rattle.gm_http.specs.declared.request.Request.{Request}
-use Rattle.gm_http.specs.declared.routes.Target.{Target}
-use Rattle.gm_http.specs.declared.routes.Target.TheVariants.{Commands}
-use Rattle.gm_http.specs.Bodies.{call_of}
-use Rattle.gm_http.specs.Fields.{length_by}
-use Rattle.gm_http.specs.Input.{AsksAtHead, Takes}
-use Rattle.gm_http.specs.Requests.{Asked, Asks, NotAllowed, NotFound, asked_at, asked_by, asked_of, called, sent, taken}
-use Rattle.gm_http.specs.Responses.{method_name}
-use Rattle.gm_http.specs.Routes.{method_of, target_of}
+use Rattle.gm_http.proofs.Common.{◌≡◌, ◌∙◌, ◌≤◌, ◌+◌, ℕ, Bool, true, false, sym, ap, refl, arith, inl, inr, List, ◌++◌, length, take, drop, map, Option, Some, None, Result, Ok, Err, IfOk, IfSome, append_assoc, length-append, nat_lt, slice_range, bytes_eq, nat_tests, length-drop, take-append-le, drop-append-le, request_unique, RequestHead, IsRequestAt, header_bytes, span_bytes, HeaderSpan, RequestSpans, Request, Target, Commands, call_of, length_by, AsksAtHead, Takes, Asked, Asks, NotAllowed, NotFound, asked_at, asked_of, called, sent, taken, method_name, method_of, target_of}
+use Rattle.gm_http.specs.Requests.{asked_by}
 
 pub for_each : {A : Type 0} (a : Option A) (P : A → Type 0) → ((x : A) → P x) → IfSome a P
 for_each None P all = tt

@@ -1,12 +1,7 @@
 -- What the bytes that were read say of the input that they stand at the front of.
-use Rattle.std.proofs.Common.{◌≡◌, ◌∙◌, ◌≤◌, ℕ, sym, ap, subst, arith, List, [], ◌++◌, length, take, drop, Option, Some, None, IfSome, append-nil, append_assoc, length-append, take-append-drop}
-use Rattle.std.proofs.lemmas.List.{take-append-le}
-use Rattle.std.proofs.Math.Seq.{take-append_seam}
+use Rattle.gm_http.proofs.Common.{◌≡◌, ◌∙◌, ◌≤◌, ℕ, sym, ap, subst, arith, List, [], ◌++◌, length, take, drop, Option, Some, None, IfSome, append-nil, append_assoc, length-append, take-append-drop, take-append-le, take-append_seam, IsAtEnd, HasNoRequest, ReadsRequest, RequestOverflows, HasNoHead, Takes}
 use Rattle.std.proofs.KnownBytes.{Consumes-nil, Consumes-trans}
-use Rattle.std.specs.Io.KnownBytes.{IsAtEnd}
-use Rattle.httparse.specs.Grammar.{HasNoRequest, ReadsRequest, print_request}
-use Rattle.httparse.specs.Spans.{RequestOverflows}
-use Rattle.gm_http.specs.Input.{HasNoHead, Takes}
+use Rattle.httparse.specs.Grammar.{print_request}
 
 pub nothing_is_no_request : HasNoRequest []
 unfolding print_request

@@ -1,12 +1,7 @@
 -- When bytes hold no call, since they aren't a text.
-use Rattle.std.proofs.Common.{◌≡◌, ℕ, List, false, refl, None}
-use Rattle.std.specs.Prelude.{option_and_then}
-use Rattle.std.specs.Str.{IsUtf8, is_utf8}
-use Rattle.std.proofs.lemmas.Bool.{cases_Bool}
-use Rattle.std.proofs.lemmas.Str.{IsUtf8-from_is_utf8, is_utf8-from_IsUtf8}
+use Rattle.gm_http.proofs.Common.{◌≡◌, ℕ, List, false, refl, None, option_and_then, IsUtf8, is_utf8, cases_Bool, IsUtf8-from_is_utf8, is_utf8-from_IsUtf8, read, call_in}
 use mathlib.Core.Logic.{⊎_elim}
-use Rattle.serde_json.specs.Read.{read}
-use Rattle.gm_http.specs.Bodies.{call_in, call_of}
+use Rattle.gm_http.specs.Bodies.{call_of}
 
 pub call_of_text : (bytes : List ℕ) → IsUtf8 bytes
     → call_of bytes ≡ option_and_then call_in (read bytes)

@@ -1,13 +1,6 @@
 -- The number that a text of at most ten digits is.
-use Rattle.std.proofs.Common.{◌≡◌, ◌≢◌, ◌∙◌, ◌<◌, ◌≤◌, ◌^◌, ◌&&◌, ℕ, Bool, true, false, zero, suc, nat_le, refl, sym, ap, arith, List, [], ◌∷◌, length, true≢false, lit<, Some, None, Result, Ok, Err}
-use Rattle.std.specs.Result.{result_ok}
-use Rattle.std.specs.Char.{digit_value, is_ascii_digit}
-use Rattle.std.specs.List.{list_all}
-use Rattle.std.specs.Str.{IsAscii, IsUtf8}
-use Rattle.std.specs.Str.Parse.{AllDigits, ParsesUnsigned, digits_value, without_leading_plus}
-use Rattle.std.proofs.lemmas.Bool.Decides.{nat_tests}
+use Rattle.gm_http.proofs.Common.{◌≡◌, ◌≢◌, ◌∙◌, ◌<◌, ◌≤◌, ◌^◌, ◌&&◌, ℕ, Bool, true, false, zero, suc, nat_le, refl, sym, ap, arith, List, [], ◌∷◌, length, true≢false, lit<, Some, None, Result, Ok, Err, result_ok, digit_value, is_ascii_digit, list_all, IsAscii, IsUtf8, AllDigits, ParsesUnsigned, digits_value, without_leading_plus, nat_tests, IsUtf8-from_ascii}
 use Rattle.std.proofs.lemmas.Int.Digits.{digits_value-lt}
-use Rattle.std.proofs.lemmas.Str.{IsUtf8-from_ascii}
 use Rattle.std.proofs.lemmas.Str.Parse.{without_leading_plus_none}
 use Rattle.std.proofs.Math.Nat.{pow-le-pow_right}
 use Rattle.gm_http.specs.Fields.{number_of}

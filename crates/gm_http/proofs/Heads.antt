@@ -1,7 +1,6 @@
 -- A response's head, joined from the pieces that are written.
-use Rattle.std.proofs.Common.{◌≡◌, ℕ, List, ◌++◌, append_assoc, decimal, length, codes}
-use Rattle.gm_http.specs.declared.status.Status.{Status}
-use Rattle.gm_http.specs.Responses.{allow_line, code_of, phrase_of, response_bytes}
+use Rattle.gm_http.proofs.Common.{◌≡◌, ℕ, List, ◌++◌, append_assoc, decimal, length, codes, Status, allow_line, code_of, phrase_of}
+use Rattle.gm_http.specs.Responses.{response_bytes}
 
 -- a version and a code, their phrase, a type, a length and its digits, a line of its own, an end
 pieces_joined : (ver code sp phrase nl type name digits line end body : List ℕ)

@@ -1,6 +1,7 @@
 pub mod Asking
 pub mod Beginnings
 pub mod Calls
+pub mod Common
 pub mod Digits
 pub mod Heads
 pub mod Members

@@ -1,10 +1,7 @@
 -- How many members an object has.
-use Rattle.std.proofs.Common.{◌≡◌, refl, arith, List, [], ◌∷◌, length}
-use Rattle.std.specs.Prelude.{String}
+use Rattle.gm_http.proofs.Common.{◌≡◌, refl, arith, List, [], ◌∷◌, length, String, members_view, count}
 use Rattle.std.specs.declared.alloc.Global.{Global}
-use Rattle.serde_json.specs.View.{members_view}
 use Rattle.serde_json.specs.declared.Value.{Value}
-use Rattle.gm_http.specs.Bodies.{count}
 
 pub count_of : (ms : List (String Global × Value)) → count (members_view ms) ≡ length ms
 count_of [] = refl

@@ -1,11 +1,5 @@
 -- The values of the fields of a name, by one field more.
-use Rattle.std.proofs.Common.{◌≡◌, ◌∙◌, ℕ, ◌+◌, ◌<◌, Bool, true, false, List, [], ◌∷◌, ◌++◌, ap, add-one, append_assoc, drop, get_or, length, map, sym}
-use Rattle.std.specs.Prelude.{if◌then◌else◌}
-use Rattle.std.specs.Str.{str_eq_ignore_ascii_case}
-use Rattle.std.proofs.Math.Seq.{drop-cons}
-use Rattle.httparse.specs.Spans.{header_bytes}
-use Rattle.httparse.specs.declared.spans.HeaderSpan.{HeaderSpan}
-use Rattle.gm_http.specs.Fields.{values_of}
+use Rattle.gm_http.proofs.Common.{◌≡◌, ◌∙◌, ℕ, ◌+◌, ◌<◌, Bool, true, false, List, [], ◌∷◌, ◌++◌, ap, add-one, append_assoc, drop, get_or, length, map, sym, if◌then◌else◌, str_eq_ignore_ascii_case, drop-cons, header_bytes, HeaderSpan, values_of}
 
 -- those of the fields from a place on
 abbrev pub from : List ℕ → List ℕ → List HeaderSpan → ℕ → List (List ℕ)

@@ -1,18 +1,10 @@
 -- Which texts are targets of mirrors and providers.
-use Rattle.std.proofs.Common.{◌≡◌, ◌∙◌, ◌-◌, ℕ, true, refl, sym, ap, arith, List, [], ◌++◌, length, take, Option, Some, None, IsTrue, codes, nat_eq, append-nil, length-append}
-use Rattle.std.specs.Prelude.{option_and_then, option_map, if◌then◌else◌}
-use Rattle.std.specs.List.{starts_with, ends_with}
-use Rattle.std.proofs.Math.Seq.{drop-append_seam, take-append_seam}
-use Rattle.std.proofs.lemmas.Bool.{cases_Bool}
-use Rattle.std.proofs.lemmas.Bool.Decides.{Decides-eqb}
-use Rattle.std.proofs.lemmas.Slice.Eq.{starts_is, ends_is}
+use Rattle.gm_http.proofs.Common.{◌≡◌, ◌∙◌, ◌-◌, ℕ, true, refl, sym, ap, arith, List, [], ◌++◌, length, take, Option, Some, None, IsTrue, codes, nat_eq, append-nil, length-append, option_and_then, option_map, if◌then◌else◌, starts_with, ends_with, drop-append_seam, take-append_seam, cases_Bool, Decides-eqb, starts_is, ends_is, is_label, Route, before, behind, named_on, routes}
 use mathlib.Core.Logic.{⊎_elim}
 use Rattle.matchit.specs.Route.{scan}
-use Rattle.gm_metadata.specs.Labels.{is_label}
-use Rattle.gm_http.specs.declared.routes.Route.{Route}
 use Rattle.gm_http.specs.declared.routes.Route.TheVariants as route
 use Rattle.gm_http.specs.declared.routes.Target.TheVariants as target
-use Rattle.gm_http.specs.Routes.{before, behind, label_between, named_on, route_of, routes, target_of}
+use Rattle.gm_http.specs.Routes.{label_between, route_of, target_of}
 use Rattle.gm_http.proofs.Walks.{label_letters, seek_end, seek_label, seek_label_before, segment_label, walk}
 
 -- ---- what stands between a beginning and an end

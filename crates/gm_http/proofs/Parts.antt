@@ -1,13 +1,7 @@
 -- What strips of a text leave, as functions.
-use Rattle.std.proofs.Common.{◌≡◌, ◌-◌, ◌∙◌, ℕ, List, length, drop, take, Option, Some, None, MatchOption, true, false, refl, ap, Bor}
-use Rattle.std.specs.Prelude.{nat_eq, option_map}
-use Rattle.std.specs.List.{starts_with, ends_with}
+use Rattle.gm_http.proofs.Common.{◌≡◌, ◌-◌, ◌∙◌, ℕ, List, length, drop, take, Option, Some, None, MatchOption, true, false, refl, ap, Bor, nat_eq, option_map, starts_with, ends_with, cases_Bool, Decides-eqb, starts_is, ends_is, behind, before}
 use Rattle.std.specs.Str.Pattern.{FindsTextPrefix, FindsTextSuffix, StripsPrefix, StripsSuffix}
-use Rattle.std.proofs.lemmas.Bool.{cases_Bool}
-use Rattle.std.proofs.lemmas.Bool.Decides.{Decides-eqb}
-use Rattle.std.proofs.lemmas.Slice.Eq.{starts_is, ends_is}
 use mathlib.Core.Logic.{⊎_elim}
-use Rattle.gm_http.specs.Routes.{behind, before}
 
 pub behind_is : (front text : List ℕ) (r : Option (Bor (List ℕ)))
     → MatchOption r (FindsTextPrefix front text None)

@@ -1,21 +1,7 @@
 -- Who sent a request, by what was read of its head.
-use Rattle.std.proofs.Common.{◌≡◌, ◌∙◌, ◌↔◌, ℕ, Bool, false, sym, ap, subst, refl, List, [], ◌∷◌, ◌++◌, drop, take, append_assoc, map, All, Any, IsTrue, Result, Ok, Err, IfSome, Option, Some, None}
-use Rattle.std.specs.Result.{is_ok}
-use Rattle.std.specs.Net.Grammar.{IsIpv6Text, Parses}
+use Rattle.gm_http.proofs.Common.{◌≡◌, ◌∙◌, ◌↔◌, ℕ, Bool, false, sym, ap, subst, refl, List, [], ◌∷◌, ◌++◌, drop, take, append_assoc, map, All, Any, IsTrue, Result, Ok, Err, IfSome, Option, Some, None, is_ok, IsIpv6Text, Parses, false≢true, append_cancel_right, All-get_or, All-map, request_unique, header_bytes, name_and_value, HeaderSpan, RequestSpans, HasNoHead, IsHead, Takes, HasHead, Sender, Page, Program, IsBracketed, Sends, SendsFields, TellsPage}
 use Rattle.std.specs.declared.net.ipv6_addr.Ipv6Addr.{Ipv6Addr}
-use Rattle.std.proofs.lemmas.Bool.{false≢true}
-use Rattle.std.proofs.lemmas.List.{append_cancel_right}
-use Rattle.std.proofs.lemmas.List.Elements.{All-get_or, All-map}
-use Rattle.httparse.proofs.GrammarLemmas.{request_unique}
-use Rattle.httparse.specs.Spans.{header_bytes, name_and_value}
-use Rattle.httparse.specs.declared.spans.HeaderSpan.{HeaderSpan}
-use Rattle.httparse.specs.declared.spans.RequestSpans.{RequestSpans}
-use Rattle.gm_http.specs.Input.{HasNoHead, IsHead, Takes}
-use Rattle.gm_http.specs.Requests.{HasHead}
-use Rattle.gm_http.specs.declared.sender.Sender.{Sender}
-use Rattle.gm_http.specs.declared.sender.Sender.TheVariants.{Page, Program}
 use Rattle.gm_http.proofs.Beginnings.{input_is}
-use Rattle.gm_http.specs.Senders.{IsBracketed, Sends, SendsFields, TellsPage}
 
 -- what is read is what is spelled
 parsed : {A E : Type 0} (Spells : List ℕ → A → Type 0) (text : List ℕ) (r : Result A E)

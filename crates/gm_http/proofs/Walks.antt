@@ -1,13 +1,7 @@
 -- How a path walks over rows: along bytes that no parameter takes, and through one at their end.
-use Rattle.std.proofs.Common.{◌≡◌, ◌∙◌, ◌-◌, ◌<◌, ◌==◌, ◌&&◌, ℕ, Bool, true, false, zero, suc, refl, sym, ap, arith, List, [], ◌∷◌, ◌++◌, length, drop, cond, true≢false, Option, Some, None, nat_lt, nat_eq, length-append, append-nil}
-use Rattle.std.specs.List.{ends_with, list_all}
-use Rattle.std.proofs.lemmas.Bool.Decides.{Decides-eqb}
-use Rattle.std.proofs.lemmas.Slice.Eq.{ends_is}
-use Rattle.std.proofs.lemmas.Bool.Decides.{nat_tests}
-use Rattle.std.proofs.Math.Seq.{drop-length, drop-append_seam}
+use Rattle.gm_http.proofs.Common.{◌≡◌, ◌∙◌, ◌-◌, ◌<◌, ◌==◌, ◌&&◌, ℕ, Bool, true, false, zero, suc, refl, sym, ap, arith, List, [], ◌∷◌, ◌++◌, length, drop, cond, true≢false, Option, Some, None, nat_lt, nat_eq, length-append, append-nil, ends_with, list_all, Decides-eqb, ends_is, nat_tests, drop-length, drop-append_seam, is_label, is_label_byte}
 use Rattle.matchit.specs.Rows.{RowsOf, param_token, catch_all_token}
 use Rattle.matchit.specs.Seek.{cuts, has_slash, or_else, own, param_step, seek, segment, step, longest_suffix}
-use Rattle.gm_metadata.specs.Labels.{is_label, is_label_byte}
 
 abbrev pub is_none : {A : Type 0} → List A → Bool
 is_none [] = true

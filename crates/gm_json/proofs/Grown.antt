@@ -1,6 +1,5 @@
 -- A list of values that grows by one.
-use Rattle.std.proofs.Common.{◌≡◌, ◌∙◌, ℕ, ◌+◌, ◌<◌, List, [], ◌∷◌, ◌++◌, take, length, get_or, map, sym, ap}
-use Rattle.std.proofs.lemmas.List.{map-append, map_more}
+use Rattle.gm_json.proofs.Common.{◌≡◌, ◌∙◌, ℕ, ◌+◌, ◌<◌, List, [], ◌∷◌, ◌++◌, take, length, get_or, map, sym, ap, map-append, map_more}
 
 -- as many values, of one element more
 pub one_more : {X Y A : Type 0} (f : X → A) (g : Y

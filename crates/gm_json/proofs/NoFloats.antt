@@ -1,28 +1,16 @@
 -- No value that is built here has a float.
-use Rattle.std.proofs.Common.{◌≡◌, ℕ, Bool, true, false, List, [], ◌∷◌, ◌++◌, Option, Some, None, map, refl}
+use Rattle.gm_json.proofs.Common.{◌≡◌, ℕ, Bool, true, false, List, [], ◌∷◌, ◌++◌, Option, Some, None, map, refl, Mirror, disk_flags, Records, members, Data, string, items_of, has_float, items_have_float, audit_data, difference_data, differing, scrub_data, uncompared, check_data, unlike_data, in_the_way_data, withheld_data, component_data, mirror_data, standing_component, standing_mirror, status_data, disk_flag_names, held_component, held_data, held_mirror, name_where, shown_component, shown_data, shown_mirror, filled_to, left_data, passed_data, tasted_component, tasted_mirror, tasted_with, tasting_data}
 use Rattle.std.specs.Prelude.{codes}
-use Rattle.gm_state.specs.declared.records.Mirror.{Mirror}
 use Rattle.gm_state.specs.declared.records.Component.{Component}
 use Rattle.gm_state.specs.declared.records.Disk.{Disk}
 use Rattle.gm_state.specs.declared.records.Disk.TheVariants.{InSync, Inactive, Copying}
-use Rattle.gm_state.specs.Disks.{disk_flags}
-use Rattle.gm_state.specs.Records.{Records, members}
-use Rattle.serde_json.specs.Data.{Data, string}
-use Rattle.serde_json.specs.View.{items_of}
-use Rattle.serde_json.specs.Written.{has_float, items_have_float}
 use Rattle.gm_taste.specs.declared.tasted.Member.{Member}
 use Rattle.gm_taste.specs.declared.tasted.Group.{Group}
 use Rattle.gm_taste.specs.declared.tasted.Tasted.{Tasted}
 use Rattle.gm_shelf.specs.declared.passed_over.PassedOver.{PassedOver}
 use Rattle.gm_looks.specs.declared.scrub.Scrubbed.{Scrubbed}
-use Rattle.gm_json.specs.Audits.{audit_data, difference_data, differing, scrub_data, uncompared}
 use Rattle.gm_unlike.specs.declared.checkup.Checkup.{Checkup}
-use Rattle.gm_json.specs.Checks.{check_data, unlike_data}
 use Rattle.gm_looks.specs.declared.unlike.Unlike.{Unlike}
-use Rattle.gm_json.specs.Keyed.{in_the_way_data, withheld_data}
-use Rattle.gm_json.specs.Mirrors.{component_data, mirror_data, standing_component, standing_mirror, status_data}
-use Rattle.gm_json.specs.Shown.{disk_flag_names, held_component, held_data, held_mirror, name_where, shown_component, shown_data, shown_mirror}
-use Rattle.gm_json.specs.Tastings.{filled_to, left_data, passed_data, tasted_component, tasted_mirror, tasted_with, tasting_data}
 
 -- nor has a list of them
 none_of_each : {X : Type 0} (f : X → Data) (xs : List X) → ((x : X) → has_float (f x) ≡ false)

@@ -1,11 +1,9 @@
 -- What a line asks, by whether it is text.
-use Rattle.std.proofs.Common.{◌≡◌, ◌≤◌, ◌∙◌, ℕ, nat_lt, Bool, true, false, true≢false, refl, sym, ap, arith, List, ◌∷◌, Option, Some, None, codes, length}
-use Rattle.std.proofs.lemmas.Bool.Decides.{nat_tests}
+use Rattle.gm_lines.proofs.Common.{◌≡◌, ◌≤◌, ◌∙◌, ℕ, nat_lt, Bool, true, false, true≢false, refl, sym, ap, arith, List, ◌∷◌, Option, Some, None, codes, length, nat_tests, spelled, Asked, Nothing, Wrong, Call, asked_by, called, pieces}
 use Rattle.std.proofs.lemmas.Str.{IsUtf8-from_is_utf8, is_utf8-from_IsUtf8}
 use Rattle.std.specs.Str.{IsUtf8, is_utf8}
 use Rattle.gm_commands.specs.declared.command.Command.{Command}
-use Rattle.gm_words.specs.Spelling.{spelled}
-use Rattle.gm_lines.specs.Asked.{Asked, Nothing, Wrong, Call, asked, asked_by, called, pieces}
+use Rattle.gm_lines.specs.Asked.{asked}
 
 abbrev pub IsShort : List ℕ → Type 0
 IsShort text = length text ≤ 131072

@@ -1,21 +1,11 @@
 -- Lines as they are read.
-use Rattle.std.proofs.Common.{◌≡◌, ◌∙◌, ◌<◌, ◌≤◌, ◌==◌, ◌&&◌, nat_lt, not, ℕ, Bool, true, false, refl, sym, ap, arith, List, [], ◌∷◌, ◌++◌, length, take, drop, slice_index, min, zero, suc, Option, Some, None, IfSome, append-nil, append_assoc, take-append-drop, true≢false, length-append, le_refl, zero-le, subst}
+use Rattle.gm_lines.proofs.Common.{◌≡◌, ◌∙◌, ◌<◌, ◌≤◌, ◌==◌, ◌&&◌, nat_lt, not, ℕ, Bool, true, false, refl, sym, ap, arith, List, [], ◌∷◌, ◌++◌, length, take, drop, slice_index, min, zero, suc, Option, Some, None, IfSome, append-nil, append_assoc, take-append-drop, true≢false, length-append, le_refl, zero-le, subst, nat_tests, drop_through, line_at, is_one_line, onto, IsAheadIn, IsNext, BeginsWith, IsLine, IsCopied, IsTaken, WhereEnded, TakesPiece, Begins, Ahead, Line, End, Whole, Long, Piece, Feed, Bytes, Consumes-trans, nil_from_length}
 use Rattle.std.specs.Prelude.{unwrap_or, if◌then◌else◌}
 use Rattle.memchr.specs.Find.{IsFirstByte, Passes, is_byte}
 use Rattle.std.specs.Prelude.{OnSome}
-use Rattle.std.proofs.lemmas.Bool.Decides.{nat_tests}
-use Rattle.std.specs.Io.BufRead.{drop_through}
 use Rattle.std.specs.Io.KnownBytes.{Consumes, IsAtEnd}
-use Rattle.gm_lines.specs.Input.{line_at, is_one_line, lines_of, onto}
-use Rattle.gm_lines.specs.Asked.{IsAheadIn, IsNext}
-use Rattle.gm_lines.specs.Input.{BeginsWith, IsLine, IsCopied, IsTaken, WhereEnded, TakesPiece, Begins}
-use Rattle.gm_lines.specs.declared.ahead.Ahead.{Ahead}
-use Rattle.gm_lines.specs.declared.lines.Line.{Line}
-use Rattle.gm_lines.specs.declared.lines.Line.TheVariants.{End, Whole, Long}
-use Rattle.gm_lines.specs.declared.lines.Piece.{Piece}
-use Rattle.gm_lines.specs.declared.lines.Piece.TheVariants.{Nothing, Feed, Bytes}
-use Rattle.std.proofs.KnownBytes.{Consumes-trans}
-use Rattle.std.proofs.lemmas.List.{nil_from_length}
+use Rattle.gm_lines.specs.Input.{lines_of}
+use Rattle.gm_lines.specs.declared.lines.Piece.TheVariants.{Nothing}
 use Rattle.std.proofs.lemmas.List.Folds.{list_all-append}
 use Rattle.std.specs.Io.{StartsWith}
 use mathlib.Core.List.{append_cancel_left}

@@ -1,9 +1,5 @@
 -- Finding one in a list, and what a test of some one tells.
-use Rattle.std.proofs.Common.{◌≡◌, ◌∙◌, ◌⊎◌, Option, inl, inr, ⊎_elim, ℕ, Bool, true, false, ◌||◌, refl, sym, ap, ap₂, List, [], ◌∷◌, ◌++◌, filter, find, map, Some, None}
-use Rattle.std.specs.List.{list_all, list_any}
-use Rattle.std.proofs.lemmas.Bool.{cases_Bool, or_parts, or_left, or_right}
-use Rattle.gm_metadata.specs.Images.{same_label}
-use Rattle.gm_lists.specs.Ordered.{Has, Ascends}
+use Rattle.gm_lists.proofs.Common.{◌≡◌, ◌∙◌, ◌⊎◌, Option, inl, inr, ⊎_elim, ℕ, Bool, true, false, ◌||◌, refl, sym, ap, ap₂, List, [], ◌∷◌, ◌++◌, filter, find, map, Some, None, list_all, list_any, cases_Bool, or_parts, or_left, or_right, same_label, Has, Ascends}
 use Rattle.gm_lists.proofs.Order.{same_from, same_is}
 use Rattle.gm_lists.proofs.Putting.{one}
 

@@ -1,3 +1,4 @@
+pub mod Common
 pub mod Finding
 pub mod Lists
 pub mod Order

@@ -1,8 +1,5 @@
 -- Being one of a list, and standing in order, through filters and maps.
-use Rattle.std.proofs.Common.{◌≡◌, ◌∙◌, ◌⊎◌, inl, inr, ⊎_elim, ℕ, Bool, true, refl, sym, ap, subst, List, [], ◌∷◌, ◌++◌, filter, map, Option, Some, None}
-use Rattle.std.specs.List.{filter_map, cons_option}
-use Rattle.std.proofs.lemmas.Bool.{cases_Bool}
-use Rattle.gm_lists.specs.Ordered.{label_lt, Has, AscendsBy, Ascends}
+use Rattle.gm_lists.proofs.Common.{◌≡◌, ◌∙◌, ◌⊎◌, inl, inr, ⊎_elim, ℕ, Bool, true, refl, sym, ap, subst, List, [], ◌∷◌, ◌++◌, filter, map, Option, Some, None, filter_map, cons_option, cases_Bool, label_lt, Has, AscendsBy, Ascends}
 
 -- what was pushed is there last
 pub Has-push : {X : Type 0} (xs : List X) (y x : X) → Has (xs ++ y ∷ []) x → Has xs x ⊎ (y ≡ x)

@@ -1,8 +1,5 @@
 -- A list whose elements are changed where they stand.
-use Rattle.std.proofs.Common.{◌≡◌, ◌≢◌, ◌∙◌, inl, inr, ℕ, Bool, true, false, refl, sym, ap, subst, List, [], ◌∷◌, map, filter}
-use Rattle.std.specs.Str.{bytes_eq}
-use Rattle.std.proofs.lemmas.Bool.{cases_Bool}
-use Rattle.gm_lists.specs.Ordered.{Has, Ascends, label_lt, put}
+use Rattle.gm_lists.proofs.Common.{◌≡◌, ◌≢◌, ◌∙◌, inl, inr, ℕ, Bool, true, false, refl, sym, ap, subst, List, [], ◌∷◌, map, filter, bytes_eq, cases_Bool, Has, Ascends, label_lt, put}
 use Rattle.gm_lists.proofs.Order.{same_from, differ, lt_asym, lt_differ}
 use Rattle.gm_lists.proofs.Lists.{Has-map}
 

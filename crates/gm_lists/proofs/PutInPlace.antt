@@ -1,9 +1,5 @@
 -- A record that is put in place of the one of its name.
-use Rattle.std.proofs.Common.{◌≡◌, ◌∙◌, inl, inr, ℕ, true, false, not, refl, sym, ap, subst, List, [], ◌∷◌}
-use Rattle.std.specs.List.{insert, prefix_len}
-use Rattle.std.specs.Str.{bytes_eq}
-use Rattle.std.proofs.lemmas.Bool.{cases_Bool, not-true}
-use Rattle.gm_lists.specs.Ordered.{Has, Ascends, label_lt, put, put_all, without, without_all}
+use Rattle.gm_lists.proofs.Common.{◌≡◌, ◌∙◌, inl, inr, ℕ, true, false, not, refl, sym, ap, subst, List, [], ◌∷◌, insert, prefix_len, bytes_eq, cases_Bool, not-true, Has, Ascends, label_lt, put, put_all, without, without_all}
 use Rattle.gm_lists.proofs.Order.{same_tells, same_from, differ, lt_trans, lt_differ}
 use Rattle.gm_lists.proofs.Putting.{Ascends-put, filter_id, put_first, put_insert}
 use Rattle.gm_lists.proofs.Lists.{Has-filter, Ascends-filter}

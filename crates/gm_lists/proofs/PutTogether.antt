@@ -1,7 +1,5 @@
 -- What is there once several records are put at their places.
-use Rattle.std.proofs.Common.{◌≡◌, ◌∙◌, ◌⊎◌, inl, inr, ⊎_elim, ℕ, ◌+◌, ◌≤◌, Bool, true, false, refl, sym, ap, subst, arith, List, [], ◌∷◌, filter, length}
-use Rattle.std.specs.Str.{bytes_eq}
-use Rattle.gm_lists.specs.Ordered.{label_lt, Has, Ascends, put, put_all}
+use Rattle.gm_lists.proofs.Common.{◌≡◌, ◌∙◌, ◌⊎◌, inl, inr, ⊎_elim, ℕ, ◌+◌, ◌≤◌, Bool, true, false, refl, sym, ap, subst, arith, List, [], ◌∷◌, filter, length, bytes_eq, label_lt, Has, Ascends, put, put_all}
 use Rattle.gm_lists.proofs.Order.{same_tells, differ, lt_asym, lt_differ}
 use Rattle.gm_lists.proofs.Putting.{put_there, put_stays, put_or, filter-put, filter-put_out, Ascends-put, length-put_le}
 

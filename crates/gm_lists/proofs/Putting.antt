@@ -1,9 +1,5 @@
 -- What a put or a deletion leaves.
-use Rattle.std.proofs.Common.{◌≡◌, ◌≢◌, ◌∙◌, ◌⊎◌, inl, inr, ⊎_elim, ℕ, Bool, true, false, refl, sym, ap, subst, List, [], ◌∷◌, cond, filter, map, ◌≤◌, length, arith, suc, ◌+◌, true≢false}
-use Rattle.std.specs.Str.{bytes_eq}
-use Rattle.std.specs.List.{prefix_len, insert}
-use Rattle.std.proofs.lemmas.Bool.{cases_Bool}
-use Rattle.gm_lists.specs.Ordered.{label_lt, Has, Ascends, put, put_all}
+use Rattle.gm_lists.proofs.Common.{◌≡◌, ◌≢◌, ◌∙◌, ◌⊎◌, inl, inr, ⊎_elim, ℕ, Bool, true, false, refl, sym, ap, subst, List, [], ◌∷◌, cond, filter, map, ◌≤◌, length, arith, suc, ◌+◌, true≢false, bytes_eq, prefix_len, insert, cases_Bool, label_lt, Has, Ascends, put, put_all}
 use Rattle.gm_lists.proofs.Lists.{Has-filter}
 use Rattle.gm_lists.proofs.Order.{same_tells, same_from, same_is, differ, lt_trans, lt_asym, lt_other, lt_differ}
 

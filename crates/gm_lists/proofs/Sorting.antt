@@ -1,16 +1,9 @@
 -- Lists in strict order of names: what the test of neighbours tells, and that records have one such
 -- order.
-use Rattle.std.proofs.Common.{◌≡◌, ◌∙◌, inl, inr, ⊎_elim, ℕ, zero, suc, ◌<◌, ◌≤◌, ◌+◌, Bool, true, false, refl, sym, ap, subst, arith, add-one, List, [], ◌∷◌, cond, filter, length, get_or, true≢false}
-use Rattle.std.specs.List.{IsAllAdjacentAnswer, Contains, list_all}
+use Rattle.gm_lists.proofs.Common.{◌≡◌, ◌∙◌, inl, inr, ⊎_elim, ℕ, zero, suc, ◌<◌, ◌≤◌, ◌+◌, Bool, true, false, refl, sym, ap, subst, arith, add-one, List, [], ◌∷◌, cond, filter, length, get_or, true≢false, IsAllAdjacentAnswer, Contains, list_all, nat_cmp, slice_cmp, bytes_eq, cases_Bool, and_parts, label_lt, Has, Ascends, Distinct, ascending}
 use Rattle.std.specs.List.Sorted.{IsPermutation, IsSortedByKey}
-use Rattle.std.specs.Ordering.{nat_cmp}
-use Rattle.std.specs.Cmp.Lexicographic.{slice_cmp}
-use Rattle.std.specs.Str.{bytes_eq}
-use Rattle.std.proofs.lemmas.Bool.{cases_Bool, and_parts}
 use Rattle.std.proofs.lemmas.List.Sorted.{Contains-permutation, IsPermutation-sym, sum_by-IsPermutation}
 use Rattle.std.proofs.lemmas.List.Sums.{length-filter}
-use Rattle.gm_lists.specs.Ordered.{label_lt, Has, Ascends, Distinct, ascending}
-use Rattle.gm_lists.specs.Ordered.{ascending}
 use Rattle.gm_lists.proofs.Order.{same_refl, same_is, differ, lt_trans, lt_irrefl, lt_other, lt_differ}
 
 -- ---- being one of a list, by its place

@@ -1,38 +1,16 @@
 -- If an audit lists none, tasting the registered components tells what the records say.
-use Rattle.std.proofs.Common.{◌≡◌, ◌≢◌, ◌∙◌, inl, inr, ⊎_elim, ℕ, ◌*◌, ◌<◌, ◌-◌, ◌≤◌, ◌==◌, ◌||◌, ◌&&◌, not, nat_lt, Bool, true, false, if◌then◌else◌, refl, sym, ap, subst, arith, List, [], Some, None, Result, Ok, Err}
-use Rattle.std.proofs.lemmas.Bool.{cases_Bool}
+use Rattle.gm_looks.proofs.Common.{◌≡◌, ◌≢◌, ◌∙◌, inl, inr, ⊎_elim, ℕ, ◌*◌, ◌<◌, ◌-◌, ◌≤◌, ◌==◌, ◌||◌, ◌&&◌, not, nat_lt, Bool, true, false, if◌then◌else◌, refl, sym, ap, subst, arith, List, [], Some, None, Result, Ok, Err, cases_Bool, Image, Sizes, decode_of, encoded, IsMetadata, Metadata, Mirror, Component, disk_flags, IsOf, at_component, component_of, metadata, mirror_of, IsMirror, IsState, Records, members, name, provider, component_state, state_by, find_one, same_from, member, Provider, state_of, IsMember, IsTasted, judged, names_own, own_name, own_size, verdict, Has, Agree, AreRegistered, IsRegistered, named, IsAsRegistered, IsAudit, last_of}
 use Rattle.std.proofs.lemmas.Bool.Decides.{nat_tests}
-use Rattle.gm_metadata.specs.Images.{Image, Sizes}
-use Rattle.gm_metadata.specs.Reading.{decode_of, encoded}
-use Rattle.gm_metadata.specs.Sector.{IsMetadata}
 use Rattle.gm_metadata.specs.declared.flags.DiskFlags.{DiskFlags}
 use Rattle.gm_metadata.specs.declared.flags.MirrorFlags.{MirrorFlags}
-use Rattle.gm_metadata.specs.declared.metadata.Metadata.{Metadata}
 use Rattle.gm_metadata.proofs.Read.{encoded_decodes}
-use Rattle.gm_state.specs.declared.records.Mirror.{Mirror}
-use Rattle.gm_state.specs.declared.records.Component.{Component}
 use Rattle.gm_state.specs.declared.records.Disk.{Disk}
 use Rattle.gm_state.specs.declared.records.Disk.TheVariants as disk
-use Rattle.gm_state.specs.Disks.{disk_flags}
-use Rattle.gm_state.specs.Intents.{IsOf}
-use Rattle.gm_state.specs.Lookups.{at_component, component_of, metadata, mirror_of}
-use Rattle.gm_state.specs.Records.{IsMirror, IsState, Records, members, name, provider}
-use Rattle.gm_state.specs.States.{component_state, state_by}
-use Rattle.gm_lists.proofs.Finding.{find_one}
-use Rattle.gm_lists.proofs.Order.{same_from}
-use Rattle.gm_state.proofs.TestsTellRules.{member}
-use Rattle.gm_taste.specs.declared.provider.Provider.{Provider}
 use Rattle.gm_taste.specs.declared.tasted.Group.{Group}
 use Rattle.gm_taste.specs.declared.tasted.Member.{Member}
 use Rattle.gm_taste.specs.declared.tasted.Reason.{Reason}
 use Rattle.gm_taste.specs.declared.tasted.Tasted.{Tasted}
-use Rattle.gm_taste.specs.States.{state_of}
-use Rattle.gm_taste.specs.Tasted.{IsMember, IsTasted}
-use Rattle.gm_taste.specs.Verdicts.{judged, names_own, own_name, own_size, verdict}
-use Rattle.gm_lists.specs.Ordered.{Has}
-use Rattle.gm_looks.specs.Agreeing.{Agree, AreRegistered, IsRegistered, IsTold, named}
-use Rattle.gm_looks.specs.Audits.{IsAsRegistered, IsAudit}
-use Rattle.gm_shelf.specs.LastSector.{last_of}
+use Rattle.gm_looks.specs.Agreeing.{IsTold}
 use Rattle.gm_looks.proofs.Listed.{some_other, some_sectors}
 
 -- ---- one component by itself

@@ -1,15 +1,5 @@
 -- The component on a provider is found with its mirror.
-use Rattle.std.proofs.Common.{◌≡◌, ◌∙◌, inl, inr, List, ℕ, Option, Some, None, true, refl, sym, ap, subst}
-use Rattle.gm_metadata.specs.Images.{same_label}
-use Rattle.gm_lists.specs.Ordered.{Has}
-use Rattle.gm_lists.proofs.Finding.{find_one, found, option_cases}
-use Rattle.gm_lists.proofs.Order.{same_is}
-use Rattle.gm_state.specs.declared.records.Mirror.{Mirror}
-use Rattle.gm_state.specs.declared.records.Component.{Component}
-use Rattle.gm_state.specs.Intents.{IsOf}
-use Rattle.gm_state.specs.Lookups.{at_component, component_of, mirror_of}
-use Rattle.gm_state.specs.Records.{IsState, Records, provider}
-use Rattle.gm_state.proofs.TestsTellRules.{member}
+use Rattle.gm_looks.proofs.Common.{◌≡◌, ◌∙◌, inl, inr, List, ℕ, Option, Some, None, true, refl, sym, ap, subst, same_label, Has, find_one, found, option_cases, same_is, Mirror, Component, IsOf, at_component, component_of, mirror_of, IsState, Records, provider, member}
 use Rattle.gm_looks.proofs.Listed.{home_found, home_of}
 
 -- both in one

@@ -1,6 +1,5 @@
 -- The pieces of the text of a copy or a patch, as they are written and as they are said.
-use Rattle.std.proofs.Common.{◌≡◌, List, ◌++◌, ℕ, Result, Ok, Err, append_assoc, ◌∙◌}
-use Rattle.std.specs.Prelude.{OnOk}
+use Rattle.gm_looks.proofs.Common.{◌≡◌, List, ◌++◌, ℕ, Result, Ok, Err, append_assoc, ◌∙◌, OnOk}
 
 -- what is added on success is known by another spelling
 pub added_as : {T E : Type 0} (r : Result T E) (x y z : List ℕ) → y ≡ z → OnOk r (x ≡ y)

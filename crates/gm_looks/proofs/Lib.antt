@@ -1,4 +1,5 @@
 pub mod AuditAgrees
+pub mod Common
 pub mod ComponentFound
 pub mod CopyText
 pub mod Listed

@@ -1,17 +1,5 @@
 -- What is listed of the components that were looked at so far.
-use Rattle.std.proofs.Common.{◌≡◌, ◌∙◌, ◌⊎◌, inl, inr, ⊎_elim, ℕ, zero, suc, ◌+◌, ◌<◌, ◌≤◌, true, refl, sym, ap, subst, arith, List, [], ◌∷◌, ◌++◌, length, take, get_or, Option, Some}
-use Rattle.std.proofs.lemmas.List.{take_more, take_all}
-use Rattle.gm_metadata.specs.Images.{same_label}
-use Rattle.gm_state.specs.declared.records.Mirror.{Mirror}
-use Rattle.gm_state.specs.declared.records.Component.{Component}
-use Rattle.gm_state.specs.Intents.{IsOf}
-use Rattle.gm_state.specs.Lookups.{mirror_of}
-use Rattle.gm_state.specs.Records.{IsState, Records, name, provider}
-use Rattle.gm_lists.specs.Ordered.{Has, Ascends, label_lt}
-use Rattle.gm_lists.proofs.Finding.{find_one}
-use Rattle.gm_lists.proofs.Order.{same_from}
-use Rattle.gm_state.proofs.TestsTellRules.{member}
-use Rattle.gm_lists.proofs.Lists.{Has-push, filter-Has}
+use Rattle.gm_looks.proofs.Common.{◌≡◌, ◌∙◌, ◌⊎◌, inl, inr, ⊎_elim, ℕ, zero, suc, ◌+◌, ◌<◌, ◌≤◌, true, refl, sym, ap, subst, arith, List, [], ◌∷◌, ◌++◌, length, take, get_or, Option, Some, take_more, take_all, same_label, Mirror, Component, IsOf, mirror_of, IsState, Records, name, provider, Has, Ascends, label_lt, find_one, same_from, member, Has-push, filter-Has}
 use Rattle.gm_looks.proofs.Pushed.{has_left, has_last}
 
 -- ---- one component

@@ -1,18 +1,5 @@
 -- The source of a mirror, by what a copy to one of its ACTIVE components would come from.
-use Rattle.std.proofs.Common.{◌≡◌, ◌≢◌, ◌∙◌, ◌⊎◌, inl, inr, ⊎_elim, ℕ, ◌==◌, ◌&&◌, not, nat_lt, true, false, refl, sym, subst, arith, List, Option, Some, None, eq-eqb, option_map}
-use Rattle.std.proofs.lemmas.Bool.{and_parts, cases_Bool, cases_order, lt-ltb, le-ltb, ne_eqb, not-true}
-use Rattle.gm_metadata.specs.Images.{label_tells, same_label}
-use Rattle.gm_state.specs.declared.records.Component.{Component}
-use Rattle.gm_state.specs.declared.records.Mirror.{Mirror}
-use Rattle.gm_state.specs.Lookups.{component_of, is_active}
-use Rattle.gm_state.specs.Records.{IsState, Records, provider}
-use Rattle.gm_state.specs.Sources.{GoesFirst, IsBest, IsSource, IsSourceOf, goes_first, lends_to}
-use Rattle.gm_lists.specs.Ordered.{Has, label_lt}
-use Rattle.gm_lists.proofs.Finding.{find_one}
-use Rattle.gm_lists.proofs.Lists.{filter-Has}
-use Rattle.gm_lists.proofs.Order.{lt_other, lt_trans, same_from, same_is}
-use Rattle.gm_state.proofs.TestsTellRules.{member}
-use Rattle.gm_looks.specs.Scrubs.{IsActiveOf, IsSourceOfMirror}
+use Rattle.gm_looks.proofs.Common.{◌≡◌, ◌≢◌, ◌∙◌, ◌⊎◌, inl, inr, ⊎_elim, ℕ, ◌==◌, ◌&&◌, not, nat_lt, true, false, refl, sym, subst, arith, List, Option, Some, None, eq-eqb, option_map, and_parts, cases_Bool, cases_order, lt-ltb, le-ltb, ne_eqb, not-true, label_tells, same_label, Component, Mirror, component_of, is_active, IsState, Records, provider, GoesFirst, IsBest, IsSource, IsSourceOf, goes_first, lends_to, Has, label_lt, find_one, filter-Has, lt_other, lt_trans, same_from, same_is, member, IsActiveOf, IsSourceOfMirror}
 use Rattle.gm_looks.proofs.Listed.{some_other}
 
 -- ---- which of two goes first

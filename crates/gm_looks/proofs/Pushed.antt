@@ -1,6 +1,5 @@
 -- What is in a list that was pushed to.
-use Rattle.std.proofs.Common.{inl, inr, refl, List, [], ◌∷◌, ◌++◌}
-use Rattle.gm_lists.specs.Ordered.{Has}
+use Rattle.gm_looks.proofs.Common.{inl, inr, refl, List, [], ◌∷◌, ◌++◌, Has}
 
 pub has_left : {X : Type 0} (xs : List X) (x q : X) → Has xs q → Has (xs ++ x ∷ []) q
 has_left [] x q h = absurd h

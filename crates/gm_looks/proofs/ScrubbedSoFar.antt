@@ -1,15 +1,5 @@
 -- What was listed so far is what the scrub lists of the components that were looked at.
-use Rattle.std.proofs.Common.{◌≡◌, ◌∙◌, inl, inr, ⊎_elim, ℕ, ◌≤◌, arith, sym, subst, List, length, take, Option, Some, None}
-use Rattle.gm_metadata.specs.Images.{Image, Same, Sizes}
-use Rattle.gm_state.specs.declared.records.Component.{Component}
-use Rattle.gm_state.specs.declared.records.Mirror.{Mirror}
-use Rattle.gm_state.specs.Records.{Records}
-use Rattle.gm_lists.specs.Ordered.{Has}
-use Rattle.gm_apply.proofs.DifferingSectors.{difference_same}
-use Rattle.gm_looks.specs.Scrubs.{HasFlaw, IsActiveOf, IsAskedFor, IsAsSource, IsScrub, MayHaveFlaw}
-use Rattle.gm_looks.specs.declared.scrub.Flaw.{Flaw}
-use Rattle.gm_looks.specs.declared.scrub.Flaw.TheVariants.{Uncompared, Differs}
-use Rattle.gm_looks.specs.declared.scrub.Scrubbed.{Scrubbed}
+use Rattle.gm_looks.proofs.Common.{◌≡◌, ◌∙◌, inl, inr, ⊎_elim, ℕ, ◌≤◌, arith, sym, subst, List, length, take, Option, Some, None, Image, Same, Sizes, Component, Mirror, Records, Has, difference_same, HasFlaw, IsActiveOf, IsAskedFor, IsAsSource, IsScrub, MayHaveFlaw, Flaw, Uncompared, Differs, Scrubbed}
 use Rattle.gm_looks.proofs.Listed.{SoFar, all_looked_at}
 
 -- ---- an image that holds the same

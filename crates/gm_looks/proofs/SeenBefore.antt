@@ -1,17 +1,6 @@
 -- How an image stands is the same if a shelf was only read in between.
-use Rattle.std.proofs.Common.{◌≡◌, ◌∙◌, inl, inr, ◌-◌, ◌==◌, ℕ, List, Option, Some, None, refl, sym, ap, subst, if◌then◌else◌}
-use Rattle.std.specs.Option.{option_and_then}
-use Rattle.gm_metadata.specs.Images.{Image, Same, Sizes}
-use Rattle.gm_state.specs.declared.intents.Intent.{Intent}
+use Rattle.gm_looks.proofs.Common.{◌≡◌, ◌∙◌, inl, inr, ◌-◌, ◌==◌, ℕ, List, Option, Some, None, refl, sym, ap, subst, if◌then◌else◌, option_and_then, Image, Same, Sizes, Intent, Mirror, Component, Records, last_sector, IsAsRegistered, IsOfCleared, IsOfComponent, IsOfNamed, ShowsOther, IsTold, Standing}
 use Rattle.gm_state.specs.declared.intents.Intent.TheVariants.{Meta, Clear, Copy, Dirty, Patch}
-use Rattle.gm_state.specs.declared.records.Mirror.{Mirror}
-use Rattle.gm_state.specs.declared.records.Component.{Component}
-use Rattle.gm_state.specs.Records.{Records}
-use Rattle.gm_shelf.specs.LastSector.{last_sector}
-use Rattle.gm_looks.specs.Audits.{IsAsRegistered}
-use Rattle.gm_looks.specs.Standings.{IsOfCleared, IsOfComponent, IsOfNamed, ShowsOther}
-use Rattle.gm_looks.specs.Texts.{IsTold}
-use Rattle.gm_looks.specs.declared.standing.Standing.{Standing}
 
 -- of so many sectors, if there are any, the last holds the same
 last_same : (v w : ℕ → List ℕ) → ((n : ℕ) → v n ≡ w n) → (o : Option ℕ)

@@ -1,20 +1,10 @@
 -- What was looked at so far are the providers of the shelf under the names so far.
-use Rattle.std.proofs.Common.{◌≡◌, ◌≢◌, ◌∙◌, inl, inr, ⊎_elim, ℕ, zero, suc, ◌+◌, ◌-◌, ◌==◌, if◌then◌else◌, ◌<◌, ◌≤◌, true, refl, sym, ap, subst, arith, List, [], ◌∷◌, ◌++◌, length, take, get_or, Option, None, Contains, IsSome}
+use Rattle.gm_looks.proofs.Common.{◌≡◌, ◌≢◌, ◌∙◌, inl, inr, ⊎_elim, ℕ, zero, suc, ◌+◌, ◌-◌, ◌==◌, if◌then◌else◌, ◌<◌, ◌≤◌, true, refl, sym, ap, subst, arith, List, [], ◌∷◌, ◌++◌, length, take, get_or, Option, None, Contains, IsSome, take_more, take_all, Image, Sizes, zeros, AreNames, last_of, Provider, Has, Distinct, DistinctNames, Has-push, lt_differ, IsShown, AreShown}
 use Rattle.std.specs.List.{AllByRecursion}
 use Rattle.std.specs.List.Sorted.{IsStrictlySortedBy}
 use Rattle.std.specs.Ordering.{nat_cmp, is_lt}
 use Rattle.std.specs.Cmp.Lexicographic.{slice_cmp}
 use Rattle.std.specs.declared.cmp.Ordering.TheVariants.{Less}
-use Rattle.std.proofs.lemmas.List.{take_more, take_all}
-use Rattle.gm_metadata.specs.Images.{Image, Sizes, zeros}
-use Rattle.gm_shelf.specs.Disk.{AreNames}
-use Rattle.gm_shelf.specs.LastSector.{last_of}
-use Rattle.gm_taste.specs.declared.provider.Provider.{Provider}
-use Rattle.gm_lists.specs.Ordered.{Has, Distinct}
-use Rattle.gm_taste.specs.Tasted.{DistinctNames}
-use Rattle.gm_lists.proofs.Lists.{Has-push}
-use Rattle.gm_lists.proofs.Order.{lt_differ}
-use Rattle.gm_looks.specs.Shown.{IsShown, AreShown}
 use Rattle.gm_looks.proofs.Pushed.{has_left, has_last}
 
 -- ---- lists

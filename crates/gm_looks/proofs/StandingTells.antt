@@ -1,19 +1,8 @@
 -- A component is as registered just if that is how its image stands.
-use Rattle.std.proofs.Common.{◌≡◌, ◌≢◌, ◌∙◌, ◌↔◌, ◌-◌, ◌<◌, ◌==◌, inl, inr, ℕ, Bool, true, false, List, Some, None, Result, Ok, Err, sym, not, if◌then◌else◌}
-use Rattle.gm_metadata.specs.Images.{Image, Sizes}
-use Rattle.gm_metadata.specs.Reading.{decode_of}
+use Rattle.gm_looks.proofs.Common.{◌≡◌, ◌≢◌, ◌∙◌, ◌↔◌, ◌-◌, ◌<◌, ◌==◌, inl, inr, ℕ, Bool, true, false, List, Some, None, Result, Ok, Err, sym, not, if◌then◌else◌, Image, Sizes, decode_of, Metadata, last_sector, last_there, Mirror, Component, metadata, IsAsRegistered, HasAnotherSize, IsOfComponent, ShowsOther, is_newer, is_of_mirror, is_older, said_by, says, unreadable, Standing, AsRegistered, Absent, AnotherSize, Damaged, AnotherMirror, AnotherComponent, Older, Newer}
 use Rattle.gm_metadata.specs.declared.fault.DecodeFault.{DecodeFault}
 use Rattle.gm_metadata.specs.declared.fault.DecodeFault.TheVariants.{Magic, Version, Hash, Name, Provider, Balance, Flags, SectorSize}
-use Rattle.gm_metadata.specs.declared.metadata.Metadata.{Metadata}
-use Rattle.gm_shelf.specs.LastSector.{last_sector}
-use Rattle.gm_shelf.proofs.LastRead.{last_there}
-use Rattle.gm_state.specs.declared.records.Mirror.{Mirror}
-use Rattle.gm_state.specs.declared.records.Component.{Component}
-use Rattle.gm_state.specs.Lookups.{metadata}
-use Rattle.gm_looks.specs.Audits.{IsAsRegistered}
-use Rattle.gm_looks.specs.Standings.{HasAnotherSize, IsOfComponent, ShowsOther, is_newer, is_of_mirror, is_older, said_by, says, unreadable}
-use Rattle.gm_looks.specs.declared.standing.Standing.{Standing}
-use Rattle.gm_looks.specs.declared.standing.Standing.TheVariants.{AsRegistered, Absent, AnotherSize, Damaged, AnotherMirror, AnotherComponent, Older, Newer, Member}
+use Rattle.gm_looks.specs.declared.standing.Standing.TheVariants.{Member}
 
 -- ---- what is said is another standing
 

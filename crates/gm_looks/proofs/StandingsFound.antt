@@ -1,13 +1,5 @@
 -- How an image stands, by what was found of it.
-use Rattle.std.proofs.Common.{◌≡◌, List, ℕ, Some, None, subst}
-use Rattle.gm_metadata.specs.Images.{Image, Sizes}
-use Rattle.gm_state.specs.declared.records.Mirror.{Mirror}
-use Rattle.gm_state.specs.declared.records.Component.{Component}
-use Rattle.gm_state.specs.Records.{IsState, Records}
-use Rattle.gm_state.proofs.TestsTellRules.{member}
-use Rattle.gm_looks.specs.Standings.{IsOfCleared, IsOfComponent, IsOfNamed}
-use Rattle.gm_looks.specs.Words.{without_zero}
-use Rattle.gm_looks.specs.declared.standing.Standing.{Standing}
+use Rattle.gm_looks.proofs.Common.{◌≡◌, List, ℕ, Some, None, subst, Image, Sizes, Mirror, Component, IsState, Records, member, IsOfCleared, IsOfComponent, IsOfNamed, without_zero, Standing}
 use Rattle.gm_looks.proofs.ComponentFound.{found_pair, one_pair, pair_at, pair_none}
 
 module _ (s : Records) (size : Sizes) (seen : Image) (p : List ℕ) (state : IsState s) where

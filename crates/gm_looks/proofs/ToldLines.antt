@@ -1,10 +1,5 @@
 -- The lines of the intents so far, and one more.
-use Rattle.std.proofs.Common.{◌≡◌, ◌∙◌, ◌+◌, ◌<◌, get_or, length, take, List, [], ◌∷◌, ◌++◌, ℕ, refl, sym, ap, append_assoc, append-nil}
-use Rattle.std.proofs.lemmas.List.{take_more}
-use Rattle.gm_metadata.specs.Images.{Image, Sizes}
-use Rattle.gm_state.specs.declared.intents.Intent.{Intent}
-use Rattle.gm_state.specs.Records.{Records}
-use Rattle.gm_looks.specs.Texts.{AreTold, IsTold, told_line}
+use Rattle.gm_looks.proofs.Common.{◌≡◌, ◌∙◌, ◌+◌, ◌<◌, get_or, length, take, List, [], ◌∷◌, ◌++◌, ℕ, refl, sym, ap, append_assoc, append-nil, take_more, Image, Sizes, Intent, Records, AreTold, IsTold, told_line}
 
 -- so many intents, and the next
 pub one_more : (all : List Intent) (i : ℕ) (t : Intent) → i < length all → t ≡ get_or all i t

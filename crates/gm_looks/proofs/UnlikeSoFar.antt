@@ -1,15 +1,6 @@
 -- What was listed so far is what is unlike of the components that were looked at; and an audit
 -- lists the names of what is unlike.
-use Rattle.std.proofs.Common.{◌≡◌, ◌∙◌, inl, inr, ⊎_elim, ℕ, ◌≤◌, Bool, true, List, length, map, take, subst}
-use Rattle.gm_metadata.specs.Images.{Image, Sizes}
-use Rattle.gm_lists.specs.Ordered.{Has, label_lt}
-use Rattle.gm_lists.proofs.Lists.{AscendsBy-map, Has-map, map-Has}
-use Rattle.gm_state.specs.declared.records.Mirror.{Mirror}
-use Rattle.gm_state.specs.declared.records.Component.{Component}
-use Rattle.gm_state.specs.Records.{IsState, Records}
-use Rattle.gm_looks.specs.Audits.{IsAsRegistered, IsAudit}
-use Rattle.gm_looks.specs.Unlikes.{IsUnlike, TellsUnlike}
-use Rattle.gm_looks.specs.declared.unlike.Unlike.{Unlike}
+use Rattle.gm_looks.proofs.Common.{◌≡◌, ◌∙◌, inl, inr, ⊎_elim, ℕ, ◌≤◌, Bool, true, List, length, map, take, subst, Image, Sizes, Has, label_lt, AscendsBy-map, Has-map, map-Has, Mirror, Component, IsState, Records, IsAsRegistered, IsAudit, IsUnlike, TellsUnlike, Unlike}
 use Rattle.gm_looks.proofs.Listed.{SoFar, all_looked_at, some_sectors}
 use Rattle.gm_looks.proofs.StandingTells.{tells_registered}
 

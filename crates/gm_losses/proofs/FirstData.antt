@@ -1,7 +1,5 @@
 -- The first data of sectors, by runs.
-use Rattle.std.proofs.Common.{◌≡◌, ◌∙◌, inl, inr, ℕ, ◌+◌, ◌-◌, ◌<◌, ◌≤◌, List, Option, Some, None, sym, ap, arith}
-use Rattle.std.proofs.lemmas.Bool.{cases_lt, cases_order}
-use Rattle.gm_losses.specs.FreeImages.{AreBlank, IsFirstData, TellsFirst}
+use Rattle.gm_losses.proofs.Common.{◌≡◌, ◌∙◌, inl, inr, ℕ, ◌+◌, ◌-◌, ◌<◌, ◌≤◌, List, Option, Some, None, sym, ap, arith, cases_lt, cases_order, AreBlank, IsFirstData, TellsFirst}
 
 -- sectors that are the same have the same first data
 pub tells_same : (f g : ℕ → List ℕ) (n : ℕ) (found : Option ℕ) → ((i : ℕ) → i < n → f i ≡ g i)

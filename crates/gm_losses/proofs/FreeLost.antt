@@ -1,18 +1,6 @@
 -- What is lost of an image that can be taken into a mirror.
-use Rattle.std.proofs.Common.{◌≡◌, ◌∙◌, ◌⊎◌, inl, inr, ⊎_elim, ℕ, ◌-◌, true, false, refl, sym, ap, subst, List, [], ◌∷◌, Option, Some, None}
-use Rattle.std.specs.Option.{option_to_list}
-use Rattle.std.proofs.lemmas.Bool.{cases_Bool}
-use Rattle.gm_metadata.specs.Images.{Image, Sizes, zeros}
-use Rattle.gm_lists.specs.Ordered.{Has}
-use Rattle.gm_lists.proofs.Finding.{not_both}
-use Rattle.gm_lists.proofs.Order.{differ, same_from}
-use Rattle.gm_state.specs.Records.{Records}
-use Rattle.gm_looks.proofs.Listed.{some_other}
-use Rattle.gm_losses.specs.FreeImages.{IsFirstData, IsFree, IsFreeImage, TellsLost, is_blank, is_database, lost_of}
-use Rattle.gm_losses.specs.Losses.{AreJust, LosesData, LosesDatabase, LosesLastSector, goes_before}
-use Rattle.gm_losses.specs.declared.free_image.FreeImage.{FreeImage}
-use Rattle.gm_losses.specs.declared.loss.Loss.{Loss}
-use Rattle.gm_losses.specs.declared.loss.Loss.TheVariants.{LastSector, Database, Data, Intact, Left, OnlyCopy, Mirror}
+use Rattle.gm_losses.proofs.Common.{◌≡◌, ◌∙◌, ◌⊎◌, inl, inr, ⊎_elim, ℕ, ◌-◌, true, false, refl, sym, ap, subst, List, [], ◌∷◌, Option, Some, None, option_to_list, cases_Bool, Image, Sizes, zeros, Has, not_both, differ, same_from, Records, some_other, IsFirstData, IsFree, IsFreeImage, TellsLost, is_blank, is_database, lost_of, AreJust, LosesData, LosesDatabase, LosesLastSector, goes_before, FreeImage, Loss, LastSector, Database, Data, Intact, Left, OnlyCopy}
+use Rattle.gm_losses.specs.declared.loss.Loss.TheVariants.{Mirror}
 use Rattle.gm_losses.proofs.FirstData.{one_first, tells_same}
 use Rattle.gm_losses.proofs.Listed.{none_lost, one_lost}
 

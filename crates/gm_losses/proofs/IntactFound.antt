@@ -1,28 +1,9 @@
 -- What is lost of a mirror that gives up components.
-use Rattle.std.proofs.Common.{◌≡◌, ◌∙◌, ◌↔◌, ◌++◌, inl, inr, ℕ, ◌-◌, ◌+◌, ◌<◌, ◌≤◌, ◌&&◌, append-nil, Bool, true, false, refl, sym, ap, subst, List, [], ◌∷◌, length, take, get_or, Option, Some, None, if◌then◌else◌}
-use Rattle.std.specs.List.{filter_map}
+use Rattle.gm_losses.proofs.Common.{◌≡◌, ◌∙◌, ◌↔◌, ◌++◌, inl, inr, ℕ, ◌-◌, ◌+◌, ◌<◌, ◌≤◌, ◌&&◌, append-nil, Bool, true, false, refl, sym, ap, subst, List, [], ◌∷◌, length, take, get_or, Option, Some, None, if◌then◌else◌, filter_map, and_from, and_parts, cases_Bool, eq-eqb, eqb-true, Image, Same, Sizes, same_label, encoded, Has, any_from, option_cases, some_any, AscendsBy-filter_map, Ascends-filter, Has-filter_map, filter_map-Has, same_from, same_is, Mirror, IsOf, metadata, mirror_of, IsState, Records, members, provider, is_on_any, has_size, is_there_and, IsAsRegistered, has_item, home_found, AreJust, LosesIntact, provider_of, Loss, Intact}
 use Rattle.std.specs.Str.{bytes_eq}
-use Rattle.std.proofs.lemmas.Bool.{and_from, and_parts, cases_Bool, eq-eqb, eqb-true}
 use Rattle.std.proofs.lemmas.List.{take_all, take_more}
-use Rattle.gm_metadata.specs.Images.{Image, Same, Sizes, same_label}
-use Rattle.gm_metadata.specs.Reading.{encoded}
-use Rattle.gm_lists.specs.Ordered.{Has}
-use Rattle.gm_lists.proofs.Finding.{any_from, option_cases, some_any}
-use Rattle.gm_lists.proofs.Lists.{AscendsBy-filter_map, Ascends-filter, Has-filter_map, filter_map-Has}
-use Rattle.gm_lists.proofs.Order.{same_from, same_is}
 use Rattle.gm_state.specs.declared.records.Component.{Component}
-use Rattle.gm_state.specs.declared.records.Mirror.{Mirror}
-use Rattle.gm_state.specs.Intents.{IsOf}
-use Rattle.gm_state.specs.Lookups.{metadata, mirror_of}
-use Rattle.gm_state.specs.Records.{IsState, Records, members, provider}
 use Rattle.gm_state.proofs.TestsTellRules.{member}
-use Rattle.gm_refusals.specs.Applies.{is_on_any}
-use Rattle.gm_refusals.specs.Seen.{has_size, is_there_and}
-use Rattle.gm_looks.specs.Audits.{IsAsRegistered}
-use Rattle.gm_looks.proofs.Listed.{has_item, home_found}
-use Rattle.gm_losses.specs.Losses.{AreJust, LosesIntact, provider_of}
-use Rattle.gm_losses.specs.declared.loss.Loss.{Loss}
-use Rattle.gm_losses.specs.declared.loss.Loss.TheVariants.{Intact}
 use Rattle.gm_losses.proofs.Listed.{in_order}
 
 -- ---- one component

@@ -1,30 +1,10 @@
 -- Which images are left of a mirror that is adopted.
-use Rattle.std.proofs.Common.{◌≡◌, ◌∙◌, ◌↔◌, inl, inr, ℕ, ◌<◌, ◌||◌, ◌&&◌, not, nat_lt, Bool, true, false, refl, sym, ap, subst, arith, List, filter, find, Option, Some, None, Ok}
-use Rattle.std.specs.List.{list_all}
-use Rattle.std.proofs.lemmas.Bool.{and_from, and_parts, cases_Bool, lt-ltb, ltb-true, or_parts}
-use Rattle.gm_metadata.specs.Images.{Image, Sizes, same_label}
+use Rattle.gm_losses.proofs.Common.{◌≡◌, ◌∙◌, ◌↔◌, inl, inr, ℕ, ◌<◌, ◌||◌, ◌&&◌, not, nat_lt, Bool, true, false, refl, sym, ap, subst, arith, List, filter, find, Option, Some, None, Ok, list_all, and_from, and_parts, cases_Bool, lt-ltb, ltb-true, or_parts, Image, Sizes, same_label, Has, any_from, found, found_none, not_both, some_any, AscendsBy-filter_map, Has-filter, Has-filter_map, filter-Has, filter_map-Has, same_from, same_is, Group, behind, state_of, IsMember, IsTasted, SaysOf, verdict, last_of, Records, AreShown, IsShown, some_other, has_member, is_adopted, is_broken, is_named, is_newest, left_among, left_as, left_of, IsBroken, IsLeft, IsOfMirror, Says, is_newer, AreJust, LosesLeft, provider_of, Loss, Left}
 use Rattle.gm_metadata.specs.declared.metadata.Metadata.{Metadata}
-use Rattle.gm_lists.specs.Ordered.{Has}
-use Rattle.gm_lists.proofs.Finding.{any_from, found, found_none, not_both, some_any}
-use Rattle.gm_lists.proofs.Lists.{AscendsBy-filter_map, Has-filter, Has-filter_map, filter-Has, filter_map-Has}
-use Rattle.gm_lists.proofs.Order.{same_from, same_is}
 use Rattle.gm_lists.proofs.Sorting.{all_has, has_all}
 use Rattle.gm_taste.specs.declared.provider.Provider.{Provider}
-use Rattle.gm_taste.specs.declared.tasted.Group.{Group}
 use Rattle.gm_taste.specs.declared.tasted.Member.{Member}
 use Rattle.gm_taste.specs.declared.tasted.Tasted.{Tasted}
-use Rattle.gm_taste.specs.States.{behind, state_of}
-use Rattle.gm_taste.specs.Tasted.{IsMember, IsTasted, SaysOf}
-use Rattle.gm_taste.specs.Verdicts.{verdict}
-use Rattle.gm_shelf.specs.LastSector.{last_of}
-use Rattle.gm_state.specs.Records.{Records}
-use Rattle.gm_looks.specs.Shown.{AreShown, IsShown}
-use Rattle.gm_looks.proofs.Listed.{some_other}
-use Rattle.gm_losses.specs.LeftAmong.{has_member, is_adopted, is_broken, is_named, is_newest, left_among, left_as, left_of}
-use Rattle.gm_losses.specs.LeftImages.{IsBroken, IsLeft, IsOfMirror, Says, is_newer}
-use Rattle.gm_losses.specs.Losses.{AreJust, LosesLeft, provider_of}
-use Rattle.gm_losses.specs.declared.loss.Loss.{Loss}
-use Rattle.gm_losses.specs.declared.loss.Loss.TheVariants.{Left}
 use Rattle.gm_losses.proofs.Listed.{in_order, none_lost}
 
 -- ---- whether a member is BROKEN

@@ -1,3 +1,4 @@
+pub mod Common
 pub mod FirstData
 pub mod FreeLost
 pub mod IntactFound

@@ -1,10 +1,5 @@
 -- Lists of no loss, of one, and of losses in byte order.
-use Rattle.std.proofs.Common.{◌≡◌, ◌<◌, arith, length, inl, ⊎_elim, Bool, true, false, refl, sym, subst, List, [], ◌∷◌, Option, Some, None}
-use Rattle.std.specs.Option.{is_some}
-use Rattle.gm_lists.specs.Ordered.{AscendsBy, Has, label_lt}
-use Rattle.gm_losses.specs.Losses.{AreJust, goes_before, provider_of}
-use Rattle.gm_losses.specs.declared.loss.Loss.{Loss}
-use Rattle.gm_losses.specs.declared.loss.Loss.TheVariants.{Database, LastSector}
+use Rattle.gm_losses.proofs.Common.{◌≡◌, ◌<◌, arith, length, inl, ⊎_elim, Bool, true, false, refl, sym, subst, List, [], ◌∷◌, Option, Some, None, is_some, AscendsBy, Has, label_lt, AreJust, goes_before, provider_of, Loss, Database, LastSector}
 
 module _ (IsOne : Loss → Type 0) where
   pub none_lost : ((x : Loss) → IsOne x → ⊥) → AreJust IsOne []

@@ -1,22 +1,8 @@
 -- The fault of a sector is the first that stands in it.
-use Rattle.std.proofs.Common.{◌≡◌, ◌≢◌, ◌∙◌, ◌<◌, ◌≤◌, ◌+◌, ℕ, Bool, true, false, not, nat_lt, ◌==◌, refl, sym, ap, subst, arith, List, length, drop, slice_index, true≢false, inl, inr, lit≤, Option, Some, None, Result, Ok, Err, if◌then◌else◌}
-use Rattle.std.specs.Prelude.{IfErr}
-use Rattle.std.proofs.lemmas.List.{length-take-le, length-drop}
-use Rattle.std.proofs.lemmas.Bool.Decides.{nat_tests, eqb_tells, not_from_Decides}
+use Rattle.gm_metadata.proofs.Common.{◌≡◌, ◌≢◌, ◌∙◌, ◌<◌, ◌≤◌, ◌+◌, ℕ, Bool, true, false, not, nat_lt, ◌==◌, refl, sym, ap, subst, arith, List, length, drop, slice_index, true≢false, inl, inr, lit≤, Option, Some, None, Result, Ok, Err, if◌then◌else◌, IfErr, length-take-le, length-drop, nat_tests, eqb_tells, not_from_Decides, bytes_eq-Decides, bytes_eq, fault_number, is_label_field, is_provider_field, version_in, has_hash, with_settings, with_version, read_as, said, decode_of, bytes_at, number_at, carries, HoldsLabel, IsOf, WrongHash, WrongFlags, Stands, Cause, version_numbered, mirror_flags_end, Metadata, Reading, Settings, DecodeFault, Magic, Version, Hash, Name, Provider, Balance, Flags, SectorSize}
 use Rattle.std.proofs.lemmas.Bool.{cases_order}
-use Rattle.std.proofs.lemmas.Slice.Eq.{bytes_eq-Decides}
-use Rattle.std.specs.Str.{bytes_eq}
-use Rattle.gm_metadata.specs.Faults.{fault_number}
-use Rattle.gm_metadata.specs.Labels.{is_label_field}
-use Rattle.gm_metadata.specs.Reading.{is_provider_field, version_in, has_hash, settings_of, with_settings, said_in, with_version, read_as, reading_of, said, decode_of}
-use Rattle.gm_metadata.specs.Sector.{bytes_at, number_at, carries, HoldsLabel, IsOf, WrongHash, WrongFlags, Stands, Cause}
-use Rattle.gm_metadata.specs.Versions.{version_numbered, mirror_flags_end}
-use Rattle.gm_metadata.specs.declared.metadata.Metadata.{Metadata}
-use Rattle.gm_metadata.specs.declared.decoding.Reading.{Reading}
-use Rattle.gm_metadata.specs.declared.decoding.Settings.{Settings}
+use Rattle.gm_metadata.specs.Reading.{settings_of, said_in, reading_of}
 use Rattle.gm_metadata.specs.declared.version.Version as versions
-use Rattle.gm_metadata.specs.declared.fault.DecodeFault.{DecodeFault}
-use Rattle.gm_metadata.specs.declared.fault.DecodeFault.TheVariants.{Magic, Version, Hash, Name, Provider, Balance, Flags, SectorSize}
 use Rattle.gm_metadata.proofs.Read.{Passes, passes, number_named, version_is_number}
 use Rattle.gm_metadata.proofs.Values.{holds_label, passes_where_held, no_provider, some_provider}
 

@@ -1,7 +1,5 @@
 -- Lanes that differ nowhere are equal.
-use Rattle.std.proofs.Common.{◌≡◌, ◌∙◌, ◌+◌, ◌*◌, ◌%◌, ℕ, Bool, true, false, not, refl, sym, ap₂, arith, List, [], ◌∷◌, length, cond, IsTrue, nat_eq, ◌==◌, rules}
-use Rattle.std.proofs.lemmas.Simd.{mask_l-mod, length-zip2}
-use Rattle.std.proofs.lemmas.Bool.Decides.{nat_tests}
+use Rattle.gm_metadata.proofs.Common.{◌≡◌, ◌∙◌, ◌+◌, ◌*◌, ◌%◌, ℕ, Bool, true, false, not, refl, sym, ap₂, arith, List, [], ◌∷◌, length, cond, IsTrue, nat_eq, ◌==◌, rules, mask_l-mod, length-zip2, nat_tests}
 use lib.Lanes.{mask_l, zip2}
 
 first : (t : ℕ → ℕ → Bool) (x y : ℕ) (xs ys : List ℕ) (b : Bool)

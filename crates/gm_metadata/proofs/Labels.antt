@@ -1,15 +1,8 @@
 -- A label and zeros are read back as the label, and a field that passes is a label and zeros.
-use Rattle.std.proofs.Common.{◌≡◌, ◌∙◌, ◌<◌, ◌-◌, ◌==◌, ◌&&◌, ℕ, Bool, true, false, not, zero, suc, nat_lt, refl, sym, ap, ap₂, arith, List, [], ◌∷◌, ◌++◌, length, drop, replicate, true≢false}
-use Rattle.std.proofs.Common.{Result, Ok, Err, lit<}
-use Rattle.std.specs.Prelude.{MatchResult, IsOk}
-use Rattle.std.specs.Str.{IsAscii, IsUtf8}
+use Rattle.gm_metadata.proofs.Common.{◌≡◌, ◌∙◌, ◌<◌, ◌-◌, ◌==◌, ◌&&◌, ℕ, Bool, true, false, not, zero, suc, nat_lt, refl, sym, ap, ap₂, arith, List, [], ◌∷◌, ◌++◌, length, drop, replicate, true≢false, Result, Ok, Err, lit<, MatchResult, IsOk, IsAscii, IsUtf8, list_all, prefix_len, nat_tests, drop-replicate, length-drop, take-append-drop, take-append_seam, is_label, is_label_byte, padded, name_in, name_len, IsLabelField}
 use Rattle.std.proofs.lemmas.Str.{IsUtf8-from_ascii}
-use Rattle.std.specs.List.{list_all, prefix_len}
-use Rattle.std.proofs.lemmas.Bool.Decides.{nat_tests}
-use Rattle.std.proofs.lemmas.List.{drop-replicate, length-drop, take-append-drop}
 use Rattle.std.proofs.lemmas.List.Folds.{length-prefix_len}
-use Rattle.std.proofs.Math.Seq.{take-append_seam}
-use Rattle.gm_metadata.specs.Labels.{is_label, is_label_byte, is_label_field, padded, name_in, name_len, IsLabelField}
+use Rattle.gm_metadata.specs.Labels.{is_label_field}
 
 pub both : (a b : Bool) → (a && b) ≡ true → (a ≡ true) × (b ≡ true)
 both true true h = (refl, refl)

@@ -1,19 +1,9 @@
 -- Fields that are laid one after another, and the same fields each at its place.
-use Rattle.std.proofs.Common.{◌≡◌, ◌∙◌, ◌+◌, ◌-◌, ℕ, refl, sym, ap, ap₂, subst, arith, List, [], ◌∷◌, ◌++◌, length, take, drop, replicate, append_assoc, length-append}
-use Rattle.std.proofs.lemmas.List.{drop-drop, take-append-drop, length-drop, length-replicate}
-use Rattle.std.proofs.Math.Seq.{drop-append_seam, take-append_seam, take-length}
-use Rattle.std.proofs.lemmas.List.{append-nil, append_cancel_right}
-use Rattle.md5.specs.Md5.{md5}
+use Rattle.gm_metadata.proofs.Common.{◌≡◌, ◌∙◌, ◌+◌, ◌-◌, ℕ, refl, sym, ap, ap₂, subst, arith, List, [], ◌∷◌, ◌++◌, length, take, drop, replicate, append_assoc, length-append, drop-drop, take-append-drop, length-drop, length-replicate, drop-append_seam, take-append_seam, take-length, append-nil, append_cancel_right, md5, balance_code, mirror_bits, disk_bits, padded, provider_field, provsize_field, bytes_at, IsMetadata, Spells, Full, version_number, fields_end, hash_end, CanSay, Two, Three, Four, Metadata}
 use Rattle.md5.proofs.StandardFacts.{length-md5}
-use Rattle.gm_metadata.specs.Balance.{balance_code}
-use Rattle.gm_metadata.specs.Flags.{mirror_bits, disk_bits}
-use Rattle.gm_metadata.specs.Labels.{padded}
 use Rattle.gm_metadata.specs.Reading.{fields, spelling, encoded}
-use Rattle.gm_metadata.specs.Sector.{magic, u32_field, u64_field, provider_field, provsize_field, bytes_at, IsMetadata, Spells, Full}
-use Rattle.gm_metadata.specs.Versions.{version_number, fields_end, hash_end, CanSay}
+use Rattle.gm_metadata.specs.Sector.{magic, u32_field, u64_field}
 use Rattle.gm_metadata.specs.declared.version.Version.{Version}
-use Rattle.gm_metadata.specs.declared.version.Version.TheVariants.{Two, Three, Four}
-use Rattle.gm_metadata.specs.declared.metadata.Metadata.{Metadata}
 use Rattle.gm_metadata.proofs.Values.{length-padded, length-provider_field, mirror_flags_pass}
 
 -- a field: how many bytes it takes, and which

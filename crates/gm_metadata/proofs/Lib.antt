@@ -1,4 +1,5 @@
 pub mod Causes
+pub mod Common
 pub mod EqualLanes
 pub mod Labels
 pub mod Laid

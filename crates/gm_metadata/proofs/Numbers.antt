@@ -1,11 +1,8 @@
 -- Numbers are what their bytes spell.
-use Rattle.std.proofs.Common.{◌≡◌, ◌∙◌, ◌<◌, ◌≤◌, ◌+◌, ◌*◌, ◌/◌, ◌%◌, ◌^◌, ◌-◌, ℕ, zero, suc, refl, sym, ap, ap₂, arith, List, [], ◌∷◌, ◌++◌, length, take, drop, get_or, slice_index, drop-cons}
-use Rattle.std.proofs.lemmas.List.{take-append-drop, length-drop, get_or-drop, drop-take}
-use Rattle.std.proofs.Math.Nat.{div-div-eq-div-mul, div-one, pow-suc}
-use Rattle.std.specs.Int.{bytes_low_first, byte_at}
+use Rattle.gm_metadata.proofs.Common.{◌≡◌, ◌∙◌, ◌<◌, ◌≤◌, ◌+◌, ◌*◌, ◌/◌, ◌%◌, ◌^◌, ◌-◌, ℕ, zero, suc, refl, sym, ap, ap₂, arith, List, [], ◌∷◌, ◌++◌, length, take, drop, get_or, slice_index, drop-cons, take-append-drop, length-drop, get_or-drop, drop-take, div-div-eq-div-mul, div-one, pow-suc, bytes_low_first, byte_at, bytes_at, number_at}
 use Rattle.byteorder.specs.Endian.{little_from, little_bytes, little_number}
 use Rattle.byteorder.specs.Numbers.{little_number-reads_back}
-use Rattle.gm_metadata.specs.Sector.{u32_field, u64_field, bytes_at, number_at}
+use Rattle.gm_metadata.specs.Sector.{u32_field, u64_field}
 
 -- a list of bytes
 abbrev pub AreBytes : List ℕ → Type 0

@@ -1,26 +1,9 @@
 -- What is read is spelled so, and what is spelled so is read.
-use Rattle.std.proofs.Common.{◌≡◌, ◌∙◌, ◌<◌, ◌≤◌, ◌+◌, ◌-◌, ◌^◌, ℕ, Bool, true, false, not, nat_lt, ◌==◌, refl, sym, ap, subst, arith, replicate, List, [], ◌∷◌, ◌++◌, length, take, drop, slice_index, lit<, lit≤, Option, Some, None, Result, Ok, Err, IfOk, if◌then◌else◌}
-use Rattle.std.proofs.lemmas.List.{length-take-le, length-drop, length-append, length-replicate}
-use Rattle.std.proofs.lemmas.Bool.Decides.{nat_tests}
-use Rattle.std.proofs.lemmas.Slice.Eq.{bytes_eq-Decides}
-use Rattle.std.proofs.Math.Nat.{le_refl}
-use Rattle.std.proofs.Math.Seq.{take-append_seam}
-use Rattle.md5.specs.Md5.{md5}
-use Rattle.gm_metadata.specs.Balance.{balance_code, balance_in}
-use Rattle.gm_metadata.specs.Flags.{mirror_bits, mirror_flags_in, disk_bits, disk_flags_in}
-use Rattle.gm_metadata.specs.Labels.{is_label_field, name_in, padded}
-use Rattle.gm_metadata.specs.Reading.{is_provider_field, provider_in, version_in, has_hash, settings_of, metadata_in, with_settings, said_in, with_version, read_as, reading_of, said, decode_of, version_read, encoded}
-use Rattle.gm_metadata.specs.Sector.{u32_field, u64_field, provider_field, provsize_field, bytes_at, number_at, carries, IsMetadata, Spells, Bears, BearsIn, SaidIn}
-use Rattle.gm_metadata.specs.Versions.{version_number, version_numbered, fields_end, hash_end, kept_size, mirror_flags_end}
-use Rattle.gm_metadata.specs.declared.metadata.Metadata.{Metadata}
+use Rattle.gm_metadata.proofs.Common.{◌≡◌, ◌∙◌, ◌<◌, ◌≤◌, ◌+◌, ◌-◌, ◌^◌, ℕ, Bool, true, false, not, nat_lt, ◌==◌, refl, sym, ap, subst, arith, replicate, List, [], ◌∷◌, ◌++◌, length, take, drop, slice_index, lit<, lit≤, Option, Some, None, Result, Ok, Err, IfOk, if◌then◌else◌, length-take-le, length-drop, length-replicate, nat_tests, bytes_eq-Decides, le_refl, take-append_seam, md5, balance_code, balance_in, mirror_bits, mirror_flags_in, disk_bits, disk_flags_in, is_label_field, name_in, padded, is_provider_field, provider_in, version_in, has_hash, metadata_in, with_settings, with_version, read_as, said, decode_of, version_read, encoded, u32_field, u64_field, provider_field, provsize_field, bytes_at, number_at, carries, IsMetadata, Spells, Bears, BearsIn, SaidIn, version_number, version_numbered, fields_end, hash_end, kept_size, mirror_flags_end, Metadata, MirrorFlags, DiskFlags, Reading, Settings, Two, Three, Four, DecodeFault}
+use Rattle.std.proofs.lemmas.List.{length-append}
+use Rattle.gm_metadata.specs.Reading.{settings_of, said_in, reading_of}
 use Rattle.gm_metadata.specs.declared.balance.Balance as balances
-use Rattle.gm_metadata.specs.declared.flags.MirrorFlags.{MirrorFlags}
-use Rattle.gm_metadata.specs.declared.flags.DiskFlags.{DiskFlags}
-use Rattle.gm_metadata.specs.declared.decoding.Reading.{Reading}
-use Rattle.gm_metadata.specs.declared.decoding.Settings.{Settings}
 use Rattle.gm_metadata.specs.declared.version.Version as versions
-use Rattle.gm_metadata.specs.declared.version.Version.TheVariants.{Two, Three, Four}
-use Rattle.gm_metadata.specs.declared.fault.DecodeFault.{DecodeFault}
 use Rattle.gm_metadata.proofs.Numbers.{AreBytes, bytes_at-take, front_of_front, u32_spelled, u64_spelled, u8_spelled, u32_read, u64_read, u8_read}
 use Rattle.gm_metadata.proofs.Values.{label_field_passes, label_field_names, provider_passes, provider_read, provider_spelled, balance_spelled, balance_read, balance_passes, mirror_flags_spelled, mirror_flags_read, mirror_flags_pass, disk_flags_spelled, disk_flags_read, disk_flags_pass}
 use Rattle.gm_metadata.proofs.Labels.{field_that_passes}

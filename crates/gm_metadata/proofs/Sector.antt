@@ -1,14 +1,7 @@
 -- A draft of a sector, and its pieces in order.
-use Rattle.std.proofs.Common.{◌≡◌, ◌∙◌, ◌≤◌, ◌+◌, ◌-◌, ℕ, refl, sym, ap, arith, List, [], ◌∷◌, ◌++◌, append_assoc, length, drop, replicate}
-use Rattle.std.proofs.lemmas.List.{drop-replicate, drop-drop}
+use Rattle.gm_metadata.proofs.Common.{◌≡◌, ◌∙◌, ◌≤◌, ◌+◌, ◌-◌, ℕ, refl, sym, ap, arith, List, [], ◌∷◌, ◌++◌, append_assoc, length, drop, replicate, drop-replicate, drop-drop, balance_code, mirror_bits, disk_bits, padded, magic, u32_field, u64_field, provider_field, Metadata, Four}
 use Rattle.std.proofs.lemmas.Slice.{drop-put_mid}
-use Rattle.gm_metadata.specs.Balance.{balance_code}
-use Rattle.gm_metadata.specs.Flags.{mirror_bits, disk_bits}
-use Rattle.gm_metadata.specs.Labels.{padded}
 use Rattle.gm_metadata.specs.Reading.{fields}
-use Rattle.gm_metadata.specs.Sector.{magic, u32_field, u64_field, provider_field}
-use Rattle.gm_metadata.specs.declared.metadata.Metadata.{Metadata}
-use Rattle.gm_metadata.specs.declared.version.Version.TheVariants.{Four}
 use borrow.Rule.Slice.PartMut.{put_mid}
 
 -- what follows the bytes that are written is still zero

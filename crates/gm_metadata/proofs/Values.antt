@@ -1,20 +1,8 @@
 -- Labels, balances and flags are read from what they are spelled as, and the other way round.
-use Rattle.std.proofs.Common.{◌≡◌, ◌≢◌, ◌∙◌, ◌<◌, ◌≤◌, ◌-◌, ◌==◌, ◌&&◌, ℕ, Bool, true, false, zero, suc, nat_lt, refl, sym, ap, ap₂, arith, List, [], ◌∷◌, ◌++◌, length, drop, replicate, IsTrue, true≢false, inl, inr, ◌⊎◌, Option, Some, None, if◌then◌else◌, length-append}
-use Rattle.std.specs.Prelude.{IfSome}
-use Rattle.std.specs.List.{list_all}
-use Rattle.std.proofs.lemmas.Bool.Decides.{nat_tests, eqb_tells}
-use Rattle.std.proofs.lemmas.List.{length-replicate}
-use Rattle.std.proofs.Math.Seq.{drop-append_seam}
-use Rattle.gm_metadata.specs.Balance.{balance_code, balance_in}
-use Rattle.gm_metadata.specs.Flags.{mirror_bits, mirror_flags_in, disk_bits, disk_flags_in}
-use Rattle.gm_metadata.specs.Labels.{is_label, is_label_byte, is_label_field, padded, name_in, name_len}
-use Rattle.gm_metadata.specs.Reading.{is_provider_field, provider_in}
-use Rattle.gm_metadata.specs.Sector.{HoldsLabel, provider_field}
+use Rattle.gm_metadata.proofs.Common.{◌≡◌, ◌≢◌, ◌∙◌, ◌<◌, ◌≤◌, ◌-◌, ◌==◌, ◌&&◌, ℕ, Bool, true, false, zero, suc, nat_lt, refl, sym, ap, ap₂, arith, List, [], ◌∷◌, ◌++◌, length, drop, replicate, IsTrue, true≢false, inl, inr, ◌⊎◌, Option, Some, None, if◌then◌else◌, length-append, IfSome, list_all, nat_tests, eqb_tells, length-replicate, drop-append_seam, balance_code, balance_in, mirror_bits, mirror_flags_in, disk_bits, disk_flags_in, is_label, is_label_byte, padded, name_in, name_len, is_provider_field, provider_in, HoldsLabel, provider_field, RoundRobin, Load, Split, Prefer, MirrorFlags, DiskFlags}
+use Rattle.gm_metadata.specs.Labels.{is_label_field}
 use Rattle.gm_metadata.specs.declared.balance.Balance.{Balance}
-use Rattle.gm_metadata.specs.declared.balance.Balance.TheVariants.{RoundRobin, Load, Split, Prefer}
 use Rattle.gm_metadata.specs.declared.balance.Balance.TheVariants as balances
-use Rattle.gm_metadata.specs.declared.flags.MirrorFlags.{MirrorFlags}
-use Rattle.gm_metadata.specs.declared.flags.DiskFlags.{DiskFlags}
 use Rattle.gm_metadata.proofs.Labels.{label_parts, name_again, label_then_zeros, field_that_passes, all_zero, not_zero, both}
 
 zeros_are_zero : (k : ℕ) → list_all (λ b. b == 0) (replicate k 0) ≡ true

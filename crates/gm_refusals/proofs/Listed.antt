@@ -1,12 +1,5 @@
 -- A refusal that a command lists stands in its list, and one that stands there is listed.
-use Rattle.std.proofs.Common.{◌≡◌, ◌∙◌, ◌==◌, ℕ, Bool, true, refl, sym, ap, subst, List, [], ◌∷◌, find, Some}
-use Rattle.std.proofs.lemmas.Bool.{eqb-true, eq-eqb}
-use Rattle.gm_commands.specs.declared.command.Command.{Command}
-use Rattle.gm_lists.specs.Ordered.{Has}
-use Rattle.gm_lists.proofs.Finding.{some_any, any_from}
-use Rattle.gm_refusals.specs.declared.refusals.Refusal.{Refusal}
-use Rattle.gm_refusals.specs.declared.refusals.Refusal.TheVariants.{NoMirror, NameTaken, MidTaken, Absent, ProviderTaken, CarriesMetadata, TooSmall, NotMember, DidTaken, Full, TooManyMirrors, SomeLost, LastActive, AlreadyInactive, NotInactive, NoneLost, Inactive, NotSynchronizing, LastSyncid, LastGenid, NothingGiven, NotAdoptable, WrongSize, NoMetadata, BeingFilled, BeyondEnd}
-use Rattle.gm_refusals.specs.Refusals.{number_of, own, is_listed}
+use Rattle.gm_refusals.proofs.Common.{◌≡◌, ◌∙◌, ◌==◌, ℕ, Bool, true, refl, sym, ap, subst, List, [], ◌∷◌, find, Some, eqb-true, eq-eqb, Command, Has, some_any, any_from, Refusal, NoMirror, NameTaken, MidTaken, Absent, ProviderTaken, CarriesMetadata, TooSmall, NotMember, DidTaken, Full, TooManyMirrors, SomeLost, LastActive, AlreadyInactive, NotInactive, NoneLost, Inactive, NotSynchronizing, LastSyncid, LastGenid, NothingGiven, NotAdoptable, WrongSize, NoMetadata, BeingFilled, BeyondEnd, number_of, own, is_listed}
 
 abbrev has_number : ℕ → Refusal → Bool
 has_number n q = number_of q == n

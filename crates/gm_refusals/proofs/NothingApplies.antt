@@ -1,25 +1,8 @@
 -- What follows if no refusal applies, and which refusal is the least.
-use Rattle.std.proofs.Common.{◌≡◌, ◌≢◌, ◌∙◌, inl, inr, ⊎_elim, ℕ, ◌+◌, ◌≤◌, ◌<◌, ◌^◌, Bool, true, false, ◌&&◌, ◌==◌, nat_lt, refl, sym, ap, subst, arith, List, [], ◌∷◌, length, find, Option, Some, None, IsSome, is_none, is_some, ltb-true, ltb-false}
-use Rattle.std.specs.Option.{ForSome}
-use Rattle.std.specs.List.{list_all}
-use Rattle.std.proofs.lemmas.Bool.{cases_Bool, and_parts, or_parts, eqb-false}
-use Rattle.gm_lists.specs.Ordered.{Has}
-use Rattle.gm_state.specs.Records.{Records, IsState}
-use Rattle.gm_state.specs.Lookups.{mirror_of}
-use Rattle.gm_commands.specs.declared.command.Command.{Command}
+use Rattle.gm_refusals.proofs.Common.{◌≡◌, ◌≢◌, ◌∙◌, inl, inr, ⊎_elim, ℕ, ◌+◌, ◌≤◌, ◌<◌, ◌^◌, Bool, true, false, ◌&&◌, ◌==◌, nat_lt, refl, sym, ap, subst, arith, List, [], ◌∷◌, length, find, Option, Some, None, IsSome, is_none, is_some, ltb-true, ltb-false, ForSome, list_all, cases_Bool, and_parts, or_parts, eqb-false, Has, Records, IsState, mirror_of, Command, Mirror, Component, same_from, Refusal, Absent, WrongSize, number_of, own, Seen, is_there_and, applies, has_wrong_size, is_on_any, reaches_beyond, IsLeast, IsGood, IsGoodButCount, found_none, any_one}
 use Rattle.gm_commands.specs.declared.command.Command.TheVariants.{Label, Insert, Remove, Deactivate, Activate, Forget, Rebuild, Configure, Clear, Destroy, Lost, Advance, Adopt, Patch}
-use Rattle.gm_state.specs.declared.records.Mirror.{Mirror}
-use Rattle.gm_state.specs.declared.records.Component.{Component}
-use Rattle.gm_lists.proofs.Order.{same_from}
 use Rattle.gm_commands.specs.declared.command.NewMirror.{NewMirror}
-use Rattle.gm_refusals.specs.declared.refusals.Refusal.{Refusal}
-use Rattle.gm_refusals.specs.declared.refusals.Refusal.TheVariants.{Absent, WrongSize}
-use Rattle.gm_refusals.specs.Refusals.{number_of, own}
-use Rattle.gm_refusals.specs.Seen.{Seen, is_there_and}
-use Rattle.gm_refusals.specs.Applies.{applies, has_wrong_size, is_on_any, reaches_beyond}
-use Rattle.gm_refusals.specs.Applies.{IsLeast, IsGood}
-use Rattle.gm_refusals.specs.PartOf.{IsGoodButCount}
-use Rattle.gm_lists.proofs.Finding.{found, found_none, any_one}
+use Rattle.gm_lists.proofs.Finding.{found}
 use Rattle.gm_state.proofs.FoundRecords.{rules_of}
 use Rattle.gm_refusals.proofs.Listed.{listed, lists}
 

@@ -1,28 +1,8 @@
 -- What a command asks for is found in its part as in the whole state.
-use Rattle.std.proofs.Common.{◌≡◌, ◌∙◌, inl, inr, ℕ, ◌≤◌, ◌==◌, ◌||◌, Bool, true, false, refl, sym, ap, ap₂, subst, List, [], ◌∷◌, Option, Some, None, filter, find, map, length, is_none, is_some, eq-eqb, arith, ◌++◌}
+use Rattle.gm_refusals.proofs.Common.{◌≡◌, ◌∙◌, inl, inr, ℕ, ◌≤◌, ◌==◌, ◌||◌, Bool, true, false, refl, sym, ap, ap₂, subst, List, [], ◌∷◌, Option, Some, None, filter, find, map, length, is_none, is_some, arith, ◌++◌, list_any, option_map_or, cases_Bool, or_left, or_right, same_label, Command, Mirror, Component, Has, Records, IsState, members, name, provider, IsOf, mirror_of, component_of, same_from, same_is, same_refl, Has-filter, filter-Has, Ascends-filter, any_from, some_any, any_agree, filter_agree, not_both, map-Has, Refusal, NoMirror, NameTaken, MidTaken, Absent, ProviderTaken, CarriesMetadata, TooSmall, NotMember, DidTaken, Full, TooManyMirrors, SomeLost, LastActive, AlreadyInactive, NotInactive, NoneLost, Inactive, NotSynchronizing, LastSyncid, LastGenid, NothingGiven, NotAdoptable, WrongSize, NoMetadata, BeingFilled, BeyondEnd, Seen, applies, name_of, providers_of, has_mid, takes_mid, is_member_of, members_named, mirror_named, looked_at, is_awaited, is_named, is_asked, with_components, part_of, IsPartOf, IsPartToDecide, applies_to_part, needed_by}
+use Rattle.std.proofs.Common.{eq-eqb}
 use Rattle.std.specs.Prelude.{option_and_then}
-use Rattle.std.specs.List.{list_any}
-use Rattle.std.specs.Option.{option_map_or}
-use Rattle.std.proofs.lemmas.Bool.{cases_Bool, or_left, or_right}
-use Rattle.gm_metadata.specs.Images.{same_label}
-use Rattle.gm_commands.specs.declared.command.Command.{Command}
-use Rattle.gm_state.specs.declared.records.Mirror.{Mirror}
-use Rattle.gm_state.specs.declared.records.Component.{Component}
-use Rattle.gm_lists.specs.Ordered.{Has}
-use Rattle.gm_state.specs.Records.{Records, IsState, members, name, provider}
-use Rattle.gm_state.specs.Intents.{IsOf}
-use Rattle.gm_state.specs.Lookups.{mirror_of, component_of}
-use Rattle.gm_lists.proofs.Order.{same_from, same_is, same_refl}
 use Rattle.gm_lists.proofs.Putting.{filter_id, length-filter_le, one}
-use Rattle.gm_lists.proofs.Lists.{Has-filter, filter-Has, Ascends-filter}
-use Rattle.gm_lists.proofs.Finding.{any_from, some_any, any_agree, filter_agree, not_both}
-use Rattle.gm_lists.proofs.Lists.{map-Has}
-use Rattle.gm_refusals.specs.declared.refusals.Refusal.{Refusal}
-use Rattle.gm_refusals.specs.declared.refusals.Refusal.TheVariants.{NoMirror, NameTaken, MidTaken, Absent, ProviderTaken, CarriesMetadata, TooSmall, NotMember, DidTaken, Full, TooManyMirrors, SomeLost, LastActive, AlreadyInactive, NotInactive, NoneLost, Inactive, NotSynchronizing, LastSyncid, LastGenid, NothingGiven, NotAdoptable, WrongSize, NoMetadata, BeingFilled, BeyondEnd}
-use Rattle.gm_refusals.specs.Seen.{Seen}
-use Rattle.gm_refusals.specs.Applies.{applies, name_of, providers_of, has_mid, takes_mid, is_member_of, members_named, mirror_named, looked_at, is_awaited}
-use Rattle.gm_refusals.specs.PartOf.{is_named, is_asked, with_components, part_of, IsPartOf, IsPartToDecide, applies_to_part}
-use Rattle.gm_refusals.specs.WorldFacts.{needed_by}
 
 -- ---- lists of which the rest was left out
 

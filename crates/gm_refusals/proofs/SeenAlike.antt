@@ -1,21 +1,8 @@
 -- If providers are seen alike, they are adopted alike.
-use Rattle.std.proofs.Common.{◌≡◌, ◌∙◌, inl, inr, ℕ, ◌≤◌, ◌<◌, ◌/◌, ◌%◌, ◌||◌, ◌&&◌, ◌==◌, nat_lt, Bool, false, not, refl, ap, ap₂, List, [], ◌∷◌, length, map, Option, Some, None, unwrap_or, is_some, ltb-true, arith, if◌then◌else◌}
-use Rattle.std.specs.List.{filter_map, list_all, list_any, cons_option}
-use Rattle.std.proofs.lemmas.Bool.{cases_Bool}
-use Rattle.gm_metadata.specs.Images.{same_label}
-use Rattle.gm_metadata.specs.declared.metadata.Metadata.{Metadata}
-use Rattle.gm_taste.specs.declared.tasted.Member.{Member}
+use Rattle.gm_refusals.proofs.Common.{◌≡◌, ◌∙◌, inl, inr, ℕ, ◌≤◌, ◌<◌, ◌/◌, ◌%◌, ◌||◌, ◌&&◌, ◌==◌, nat_lt, Bool, false, not, refl, ap, ap₂, List, [], ◌∷◌, length, map, Option, Some, None, unwrap_or, is_some, ltb-true, arith, if◌then◌else◌, filter_map, list_all, list_any, cons_option, cases_Bool, same_label, Metadata, Member, member, genid_in, syncid_in, first_from, Component, provider, Has, put_all, any_agree, Seen, is_there_and, told, tells_mid, tells_did, tells_did_twice, taken, taken_with, all_taken, found, is_beside, first_where, source_in, data_of, is_whole, is_like, has_room, has_twice, is_adoptable, is_borne_out, kept_offset, adopted_disk, adopted_syncid, adopted_component, adopted}
 use Rattle.gm_taste.specs.declared.tasted.MemberState.{MemberState}
 use Rattle.gm_taste.specs.declared.tasted.MemberState.TheVariants as tasted
-use Rattle.gm_taste.specs.Tasting.{member, genid_in, syncid_in}
-use Rattle.gm_taste.specs.Sources.{first_from}
-use Rattle.gm_state.specs.declared.records.Component.{Component}
 use Rattle.gm_state.specs.declared.records.Disk.TheVariants.{InSync, Copying}
-use Rattle.gm_state.specs.Records.{provider}
-use Rattle.gm_lists.specs.Ordered.{Has, put_all}
-use Rattle.gm_lists.proofs.Finding.{any_agree}
-use Rattle.gm_refusals.specs.Seen.{Seen, is_there_and}
-use Rattle.gm_refusals.specs.Adoptable.{told, tells_mid, tells_did, tells_did_twice, taken, taken_with, all_taken, found, is_beside, first_where, source_in, data_of, is_whole, is_like, has_room, has_twice, is_adoptable, is_borne_out, kept_offset, adopted_disk, adopted_syncid, adopted_component, adopted}
 use Rattle.gm_refusals.proofs.TakenProviders.{found_among}
 
 -- ---- lists whose elements are alike

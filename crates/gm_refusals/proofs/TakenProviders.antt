@@ -1,32 +1,14 @@
 -- What is adopted: facts of the providers that are taken, and of what is registered of them.
-use Rattle.std.proofs.Common.{◌≡◌, ◌∙◌, ◌⊎◌, inl, inr, ⊎_elim, ℕ, ◌<◌, Bool, true, not, ◌&&◌, nat_lt, sym, ap, subst, List, [], ◌∷◌, length, map, Option, Some, None, Result, Ok, Err, ltb-true, refl, slice_index, ◌+◌, ◌*◌, ◌^◌, arith, drop}
-use Rattle.std.specs.List.{list_all}
-use Rattle.std.proofs.lemmas.Bool.{cases_Bool, and_parts}
-use Rattle.gm_metadata.specs.declared.metadata.Metadata.{Metadata}
+use Rattle.gm_refusals.proofs.Common.{◌≡◌, ◌∙◌, ◌⊎◌, inl, inr, ⊎_elim, ℕ, ◌<◌, Bool, true, not, ◌&&◌, nat_lt, sym, ap, subst, List, [], ◌∷◌, length, map, Option, Some, None, Result, Ok, Err, ltb-true, refl, slice_index, ◌+◌, ◌*◌, ◌^◌, arith, drop, list_all, cases_Bool, and_parts, Metadata, Member, verdict, judged, own_name, own_size, taken_as, member, taken_by, takes_place, first_of_two, first_from, Has-filter_map, Component, Has, Ascends, provider, is_bytes, bytes_are, Seen, is_there_and, taken, taken_with, all_taken, genid_of, syncid_of, found, is_beside, first_where, source_in, data_of, is_whole, is_like, has_room, has_twice, is_adoptable, adopted_component, adopted, told, Has-map, decode_of, number_at}
 use Rattle.gm_taste.specs.declared.tasted.Reason.{Reason}
-use Rattle.gm_taste.specs.declared.tasted.Member.{Member}
 use Rattle.gm_taste.specs.declared.groups.Taken.{Taken}
-use Rattle.gm_taste.specs.Verdicts.{verdict, judged, own_name, own_size}
-use Rattle.gm_taste.specs.Tasting.{taken_as, member, taken_by}
-use Rattle.gm_taste.specs.Sources.{takes_place, first_of_two, first_from}
-use Rattle.gm_lists.proofs.Lists.{Has-filter_map}
-use Rattle.gm_state.specs.declared.records.Component.{Component}
-use Rattle.gm_lists.specs.Ordered.{Has, Ascends}
-use Rattle.gm_state.specs.Records.{provider}
 use Rattle.gm_lists.proofs.Sorting.{all_has}
-use Rattle.gm_commands.specs.Sectors.{is_bytes}
-use Rattle.gm_commands.proofs.JoinedSectors.{bytes_are}
-use Rattle.gm_refusals.specs.Seen.{Seen, is_there_and}
-use Rattle.gm_refusals.specs.Adoptable.{taken, taken_with, all_taken, genid_of, syncid_of, found, is_beside, first_where, source_in, data_of, is_whole, is_like, has_room, has_twice, is_adoptable, adopted_component, adopted, told}
 use Rattle.gm_lists.proofs.PutTogether.{put_all_or}
-use Rattle.gm_lists.proofs.Lists.{Has-map}
 use Rattle.gm_lists.proofs.PutInPlace.{Ascends-put_all}
-use Rattle.gm_metadata.specs.Reading.{decode_of}
 use Rattle.gm_metadata.specs.declared.fault.DecodeFault.{DecodeFault}
 use Rattle.gm_taste.specs.declared.provider.Provider.{Provider}
 use Rattle.gm_taste.specs.declared.tasted.Reason.TheVariants.{OtherName, OtherSize}
 use Rattle.std.proofs.lemmas.List.{get_or-drop}
-use Rattle.gm_metadata.specs.Sector.{number_at}
 use Rattle.gm_metadata.proofs.Read.{said_fields}
 
 -- a provider that is taken: it is there, its last sector is bytes that decode, and it is taken

@@ -1,27 +1,7 @@
 -- The record of `about`, as a query finds it.
-use Rattle.std.proofs.Common.{◌≡◌, Bool, true, false, ◌&&◌, inl, ℕ, pos, List, [], ◌∷◌, map, drop, length, Some, IsPermutation, refl, sym, ap, subst, ◌∙◌, arith}
-use Rattle.std.proofs.lemmas.List.Sorted.{IsPermutation-sym}
-use Rattle.sqlite.specs.Order.{Row, column}
-use Rattle.sqlite.specs.declared.types.Value.{Value}
-use Rattle.sqlite.specs.declared.types.Value.TheVariants.{Null, Int, Real, Text, Blob}
-use Rattle.sqlite_sql.specs.Ops.{is_null}
-use Rattle.sqlite_catalog.specs.Listing.{IsSound}
-use Rattle.sqlite_schema.specs.declared.schema.Constraint.TheVariants.{Datatype}
-use Rattle.sqlite_schema.specs.Rules.{are_typed}
-use Rattle.sqlite_rules.proofs.RuleLemmas.{keeps_at}
-use Rattle.sqlite.specs.Tree.{Trees}
-use Rattle.sqlite.proofs.Callers.{one_permutation}
+use Rattle.gm_registry.proofs.Common.{◌≡◌, Bool, true, false, ◌&&◌, inl, ℕ, pos, List, [], ◌∷◌, map, drop, length, Some, IsPermutation, refl, sym, ap, subst, ◌∙◌, arith, IsPermutation-sym, Row, column, Value, Null, Int, Real, Text, Blob, is_null, IsSound, Datatype, are_typed, keeps_at, Trees, one_permutation, about, about_numbered, columns_at, two, IsShown, shown_about, IsAbout, About, schema_of, about_numbers, IsNumbered, Edition, First, Second, again_shown}
 use Rattle.sqlite_rules.specs.Lists.{Has as Stands}
-use Rattle.gm_rows.specs.Schema.{about}
-use Rattle.gm_rows.specs.Rows.{about_numbered}
-use Rattle.gm_rows.specs.Values.{columns_at, two}
-use Rattle.gm_rows.specs.Queries.{IsShown}
-use Rattle.gm_rows.specs.Says.{shown_about, IsAbout}
-use Rattle.gm_rows.specs.declared.fetched.Table.TheVariants.{About}
-use Rattle.gm_registry.specs.Opening.{schema_of, number_of, about_numbers, IsNumbered}
-use Rattle.gm_registry.specs.declared.edition.Edition.{Edition}
-use Rattle.gm_registry.specs.declared.edition.Edition.TheVariants.{First, Second}
-use Rattle.gm_rows.proofs.RowsSayTables.{again_shown}
+use Rattle.gm_registry.specs.Opening.{number_of}
 
 -- the rows that its query shows are the one record exactly if it is
 pub about_told : (edition : Edition) (db : Trees) (rows : List Row) → IsShown db About rows

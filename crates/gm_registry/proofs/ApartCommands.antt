@@ -1,31 +1,9 @@
 -- No two commands have one number.
-use Rattle.std.proofs.Common.{◌≡◌, ◌∙◌, inl, inr, ℕ, pos, true, false, not, ◌&&◌, List, [], ◌∷◌, map, refl, sym, ap, IsTrue}
-use Rattle.std.specs.List.{AllByRecursion}
-use Rattle.std.specs.Ordering.{is_eq}
+use Rattle.gm_registry.proofs.Common.{◌≡◌, ◌∙◌, inl, inr, ℕ, pos, true, false, not, ◌&&◌, List, [], ◌∷◌, map, refl, sym, ap, IsTrue, AllByRecursion, is_eq, true≢false, and_from, Row, Binary, Trees, Int, IsSound, all_has, test_has, some_from, keeps_at, agree, clashes, differ, equal, guards, Unique, IsTable, rowid, is_int, IsShaped, value_cmp, mapped_from, same_value_cmp, not_both, ints_differ, ints_equal, number_of, registry_schema, commands, commands_by_seq, AreApart, stands_from}
 use Rattle.std.specs.declared.cmp.Ordering.TheVariants.{Less}
-use Rattle.std.proofs.lemmas.Bool.{true≢false, and_from}
-use Rattle.sqlite.specs.Order.{Row}
-use Rattle.sqlite.specs.Collation.TheVariants.{Binary}
-use Rattle.sqlite.specs.Tree.{Trees}
-use Rattle.sqlite.specs.declared.types.Value.TheVariants.{Int}
-use Rattle.sqlite_catalog.specs.Listing.{IsSound}
 use Rattle.sqlite_rules.specs.Lists.{Has as Stands}
-use Rattle.sqlite_rules.proofs.ListLemmas.{all_has, test_has, some_from}
-use Rattle.sqlite_rules.proofs.RuleLemmas.{keeps_at}
-use Rattle.sqlite_schema.specs.Rules.{agree, clashes, differ, equal, guards}
-use Rattle.sqlite_schema.specs.declared.schema.Constraint.TheVariants.{Unique}
-use Rattle.sqlite_trees.specs.Tree.{IsTable, rowid}
-use Rattle.sqlite_trees.specs.View.{is_int, IsShaped}
 use Rattle.sqlite_trees.specs.declared.store.Shape.TheVariants as shape
 use Rattle.sqlite_value.specs.Keys.{plain, first_key}
-use Rattle.sqlite_value.specs.Order.{value_cmp}
-use Rattle.sqlite_rows.proofs.Keyed.{mapped_from, same_value_cmp}
-use Rattle.sqlite_rows.proofs.Replacing.{not_both}
-use Rattle.sqlite_rows.proofs.ValueLemmas.{ints_differ, ints_equal}
-use Rattle.gm_rows.specs.Queries.{number_of}
-use Rattle.gm_rows.specs.Schema.{registry_schema, commands, commands_by_seq}
-use Rattle.gm_rows.proofs.CountedNumbers.{AreApart}
-use Rattle.gm_rows.proofs.ListMembers.{stands_from}
 
 -- a row whose rowid is below those of the rows after it differs from each of them in its rowid
 differs : (row other : Row) → IsTrue (is_int (rowid row)) → IsTrue (is_int (rowid other))

@@ -1,21 +1,5 @@
 -- What a call that reads or writes leaves, over values of the registry.
-use Rattle.std.proofs.Common.{◌≡◌, ◌∙◌, inl, inr, arith, ℕ, List, IsTrue, Result, Ok, Err, IfOk, IfErr, OnOk, OnErr, IsErrAnd, sym, ap, subst}
-use Rattle.sqlite_trees.specs.declared.store.Store.{Ghosts}
-use Rattle.sqlite.specs.Tree.{Trees}
-use Rattle.sqlite.specs.Held.{Held, state}
-use Rattle.sqlite.specs.Order.{Row}
-use Rattle.sqlite.specs.Schema.{Schema}
-use Rattle.sqlite.specs.Effect.{Database}
-use Rattle.sqlite.specs.declared.error.Error.{Error}
-use Rattle.sqlite.specs.Listing.{understood}
-use Rattle.sqlite.specs.Given.{IsPlain}
-use Rattle.sqlite.specs.State.{CommitsShowing, FailsToQuery, Shown, Survives}
-use Rattle.sqlite.proofs.StateLemmas.{survives_then}
-use Rattle.sqlite_rows.proofs.Reading.{failed_by, read_at_most, read_by}
-use Rattle.gm_rows.specs.Schema.{registry_schema}
-use Rattle.gm_registry.specs.Reads.{IsOurSchema}
-use Rattle.gm_state.specs.Rows.{Tables}
-use Rattle.gm_rows.specs.Tables.{Holds}
+use Rattle.gm_registry.proofs.Common.{◌≡◌, ◌∙◌, inl, inr, arith, ℕ, List, IsTrue, Result, Ok, Err, IfOk, IfErr, OnOk, OnErr, IsErrAnd, sym, ap, subst, Ghosts, Trees, Held, state, Row, Schema, Database, Error, understood, IsPlain, CommitsShowing, FailsToQuery, Shown, Survives, survives_then, failed_by, read_at_most, read_by, registry_schema, IsOurSchema, Tables, Holds}
 use Rattle.gm_registry.specs.Registry as of
 use Rattle.gm_registry.proofs.ReadsInTurn.{failed_leaves, nothing_new, sees_registry, tables_refused}
 

@@ -1,27 +1,6 @@
 -- A store of the first schema that is carried over holds the tables that it held.
-use Rattle.std.proofs.Common.{◌≡◌, ◌∙◌, ◌⊎◌, inl, inr, true, List, [], ◌∷◌, IsTrue, refl, sym, ap, subst, arith}
-use Rattle.std.proofs.lemmas.Bool.{true≢false}
-use Rattle.sqlite.specs.Effect.{Database}
-use Rattle.sqlite.specs.Order.{Row}
-use Rattle.sqlite.specs.Held.{Held, state}
-use Rattle.sqlite.specs.State.{State, HasCleanDisk, KeepsCommit, Survives, IsUnchanged, IsRolledBack}
-use Rattle.sqlite.proofs.StateLemmas.{survives_then, survives_weaker}
-use Rattle.sqlite_catalog.specs.Listing.{IsSound}
-use Rattle.sqlite_rows.specs.Reads.{HasReadOver}
-use Rattle.sqlite_rows.proofs.Statements.{survives_if}
-use Rattle.gm_rows.specs.Schema.{first_schema}
+use Rattle.gm_registry.proofs.Common.{◌≡◌, ◌∙◌, ◌⊎◌, inl, inr, true, List, [], ◌∷◌, IsTrue, refl, sym, ap, subst, arith, true≢false, Database, Row, Held, state, State, HasCleanDisk, KeepsCommit, Survives, IsUnchanged, IsRolledBack, survives_then, survives_weaker, IsSound, HasReadOver, survives_if, first_schema, FailsToCommit, Error, Ghosts, Trees, Keeps, columns, whole, keeps_none, Tables, about_values, mirror_values, component_values, intent_values, command_values, patch_values, Holds, HoldsFirst, SeesTables, SeesFirst, SeesRegistry, IsAsBefore, IsBeingMade, IsCarriedOver, IsFirstInside, IsNumbered, IsOfRegistry, SeesFirstRegistry, SeesFirstStore, First}
 use Rattle.gm_registry.proofs.Abouts.{about_row}
-use Rattle.sqlite.specs.Steps.{FailsToCommit}
-use Rattle.sqlite.specs.declared.error.Error.{Error}
-use Rattle.sqlite_trees.specs.declared.store.Store.{Ghosts}
-use Rattle.sqlite.specs.Tree.{Trees}
-use Rattle.sqlite_rows.specs.Keeps.{Keeps, columns, whole}
-use Rattle.sqlite_rows.proofs.Bags.{keeps_none}
-use Rattle.gm_state.specs.Rows.{Tables}
-use Rattle.gm_rows.specs.Rows.{about_values, mirror_values, component_values, intent_values, command_values, patch_values}
-use Rattle.gm_rows.specs.Tables.{Holds, HoldsFirst, SeesTables, SeesFirst, SeesRegistry}
-use Rattle.gm_registry.specs.Opening.{IsAsBefore, IsBeingMade, IsCarriedOver, IsFirstInside, IsNumbered, IsOfRegistry, SeesFirstRegistry, SeesFirstStore}
-use Rattle.gm_registry.specs.declared.edition.Edition.TheVariants.{First}
 use Rattle.gm_registry.proofs.InTransaction.{HasCommitted}
 
 same_kept : {A : Type 0} (part : Row → Row) (values : A → Row) (all : List A) (old new : List Row)

@@ -1,36 +1,11 @@
 -- What the table of bytes and the new number make of a registry of the first schema, and why its
 -- statements fail: no rule refuses them.
-use Rattle.std.proofs.Common.{◌≡◌, ◌∙◌, inl, inr, ℕ, Bool, true, false, List, [], ◌∷◌, Option, None, Result, Ok, Err, OnOk, IsTrue, IsSome, refl, sym, ap, subst}
-use Rattle.sqlite.specs.Order.{Row}
-use Rattle.sqlite.specs.Tree.{Trees}
-use Rattle.sqlite.specs.Schema.{Schema}
-use Rattle.sqlite.specs.Term.{col}
-use Rattle.sqlite.specs.Does.{Does}
-use Rattle.sqlite.specs.Effect.{Database}
+use Rattle.gm_registry.proofs.Common.{◌≡◌, ◌∙◌, inl, inr, ℕ, Bool, true, false, List, [], ◌∷◌, Option, None, Result, Ok, Err, OnOk, IsTrue, IsSome, refl, sym, ap, subst, Row, Trees, Schema, col, Does, Database, State, mode_of, ExecutesInside, Error, statement_of, runs_as, references_fit, Unique, ForeignKey, ProgramOverflows, IsShaped, accepts_program, clears, none_left, is_all_of, scan, inside_fault, clear_stops, OnOther, about_numbered, about, patches, first_schema, registry_schema, drop_about_text, patches_text, HasAbout, IsBeingMade, IsFirstInside}
 use Rattle.sqlite.specs.Listing.{understood}
-use Rattle.sqlite.specs.State.{State, mode_of, ExecutesInside}
-use Rattle.sqlite.specs.declared.error.Error.{Error}
-use Rattle.sqlite.proofs.Callers.{statement_of, runs_as}
 use Rattle.sqlite_schema.specs.Names.{same_name}
-use Rattle.sqlite_schema.specs.Rules.{references_fit}
-use Rattle.sqlite_schema.specs.declared.schema.Constraint.TheVariants.{Unique, ForeignKey}
-use Rattle.sqlite_sql.specs.Program.{ProgramOverflows}
 use Rattle.sqlite_tied.specs.Compute.{everything}
-use Rattle.sqlite_trees.specs.View.{IsShaped}
 use Rattle.sqlite_trees.specs.declared.store.Shape.TheVariants as shape
-use Rattle.sqlite_typing.specs.Types.{accepts_program}
 use Rattle.sqlite_value.specs.Keys.{joined}
-use Rattle.sqlite_rows.proofs.Dropping.{clears, none_left}
-use Rattle.sqlite_rows.proofs.Failing.{is_all_of}
-use Rattle.sqlite_rows.proofs.Finding.{scan}
-use Rattle.sqlite_rows.proofs.Stopping.{inside_fault}
-use Rattle.sqlite_rows.proofs.StoppingDeletes.{clear_stops}
-use Rattle.gm_rows.specs.Faults.{OnOther}
-use Rattle.gm_rows.specs.Rows.{about_numbered}
-use Rattle.gm_rows.specs.Schema.{about, patches, first_schema, registry_schema}
-use Rattle.gm_rows.specs.Statements.{drop_about_text}
-use Rattle.gm_rows.specs.Texts.{patches_text}
-use Rattle.gm_registry.specs.Opening.{HasAbout, IsBeingMade, IsFirstInside}
 use Rattle.gm_registry.proofs.ChangedTables.{idle}
 use Rattle.gm_registry.proofs.CreatableTables.{makes_patches}
 use Rattle.gm_registry.proofs.Failures.{never, told}

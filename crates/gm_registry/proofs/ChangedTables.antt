@@ -1,36 +1,8 @@
 -- What each statement that writes makes of the tables.
-use Rattle.std.proofs.Common.{◌≡◌, ◌≢◌, ℕ, pos, Bool, true, false, ◌&&◌, ◌||◌, ◌==◌, List, [], ◌∷◌, flat_map, filter_map, length, Some, None, Ok, refl, sym, subst, ◌∙◌, inl, inr}
-use Rattle.std.specs.List.{AllByRecursion}
-use Rattle.sqlite.specs.Order.{Row, column}
-use Rattle.sqlite.specs.Collation.TheVariants.{Binary}
+use Rattle.gm_registry.proofs.Common.{◌≡◌, ◌≢◌, ℕ, pos, Bool, true, false, ◌&&◌, ◌||◌, ◌==◌, List, [], ◌∷◌, flat_map, filter_map, length, Some, None, Ok, refl, sym, subst, ◌∙◌, inl, inr, AllByRecursion, Row, column, Binary, Null, Int, Text, Blob, Enforced, equal, parent_key, conflicts, Command, Insert, Values, Schema, Trees, Tally, Does, Database, State, mode_of, Keeps, columns, whole, cast_null, cast_int, gains, drops, clears, none_left, upserts, keeps_none, keeps_put, keeps_without, Makes, without, Tables, MirrorRow, ComponentRow, IntentRow, CommandRow, mirrors, components, intents, commands, patches, mirrors_by_name, components_by_prov, registry_schema, mirror_values, component_values, intent_values, command_values, patch_values, HasRows, mirror_key, component_key, without_mirror, with_mirror, without_component, with_component, with_intents, with_command, with_patch, without_intents, without_bytes}
 use Rattle.sqlite_value.specs.Keys.{first_key}
-use Rattle.sqlite.specs.declared.types.Value.TheVariants.{Null, Int, Text, Blob}
-use Rattle.sqlite_schema.specs.declared.schema.Keys.TheVariants.{Enforced}
-use Rattle.sqlite_schema.specs.Rules.{equal, parent_key}
-use Rattle.sqlite_rules.specs.Keys.{conflicts}
 use Rattle.sqlite_rules.specs.Action.{works, work_by, pairs, deed_for}
 use Rattle.sqlite.specs.Cast.{cast_all, cast_row}
-use Rattle.sqlite.specs.Command.{Command}
-use Rattle.sqlite.specs.Command.TheVariants.{Insert}
-use Rattle.sqlite.specs.Source.TheVariants.{Values}
-use Rattle.sqlite.specs.Schema.{Schema}
-use Rattle.sqlite.specs.Tree.{Trees}
-use Rattle.sqlite.specs.Does.{Tally, Does}
-use Rattle.sqlite.specs.Effect.{Database}
-use Rattle.sqlite.specs.State.{State, mode_of}
-use Rattle.sqlite_rows.specs.Keeps.{Keeps, columns, whole}
-use Rattle.sqlite_rows.proofs.ValueLemmas.{cast_null, cast_int}
-use Rattle.sqlite_rows.proofs.Inserting.{gains}
-use Rattle.sqlite_rows.proofs.Dropping.{drops, clears, none_left}
-use Rattle.sqlite_rows.proofs.Replacing.{upserts}
-use Rattle.sqlite_rows.proofs.Bags.{keeps_none, keeps_put, keeps_without}
-use Rattle.sqlite_rows.proofs.Statements.{Makes}
-use Rattle.gm_lists.specs.Ordered.{without}
-use Rattle.gm_state.specs.Rows.{Tables, MirrorRow, ComponentRow, IntentRow, CommandRow}
-use Rattle.gm_rows.specs.Schema.{mirrors, components, intents, commands, patches, mirrors_by_name, components_by_prov, registry_schema}
-use Rattle.gm_rows.specs.Rows.{mirror_values, component_values, intent_values, command_values, patch_values}
-use Rattle.gm_rows.specs.Tables.{HasRows}
-use Rattle.gm_registry.specs.Changes.{mirror_key, component_key, without_mirror, with_mirror, without_component, with_component, with_intents, with_command, with_patch, without_intents, without_bytes}
 use Rattle.gm_registry.proofs.TextMeanings.{nine_terms, updated, upsert, by_key, drop, intent_terms, command_terms, patch_terms, clear}
 
 -- every other table is as it was

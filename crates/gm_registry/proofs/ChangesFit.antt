@@ -1,27 +1,10 @@
 -- A change that puts in place what it puts, and leaves a state, breaks no rule of the tables of the
 -- state that it is made of.
-use Rattle.std.proofs.Common.{◌≡◌, ◌≢◌, ◌∙◌, inl, inr, ⊎_elim, ℕ, refl, sym, ap, subst, List, [], ◌∷◌, Option, Some, None, IfSome, find, map}
-use Rattle.std.specs.List.{AllByRecursion}
-use Rattle.std.proofs.lemmas.List.Sorted.{IsPermutation-sym}
+use Rattle.gm_registry.proofs.Common.{◌≡◌, ◌≢◌, ◌∙◌, inl, inr, ⊎_elim, ℕ, refl, sym, ap, subst, List, [], ◌∷◌, Option, Some, None, IfSome, find, map, AllByRecursion, IsPermutation-sym, same_label, Mirror, Component, Has, put, put_all, without, without_all, found_none, option_cases, Has-filter, filter-Has, Has-map, map-Has, same_from, same_is, one, put_there, put_stays, Has-permutation, Records, IsState, name, provider, Tables, MirrorRow, ComponentRow, mirror_row, component_row, Changed, PutsInPlace, changed_by, put_some, without_some, with_component, with_some_mirror, without_components, component_key, HoldState, HasFreeNumber, HasNoComponents, IsPlaced, ArePlacedInTurn, FitsRecords, without_gone}
 use Rattle.std.specs.List.Sorted.{IsPermutation}
-use Rattle.gm_metadata.specs.Images.{same_label}
-use Rattle.gm_state.specs.declared.records.Mirror.{Mirror}
-use Rattle.gm_state.specs.declared.records.Component.{Component}
-use Rattle.gm_lists.specs.Ordered.{Has, put, put_all, without, without_all}
-use Rattle.gm_lists.proofs.Finding.{found, found_none, not_both, option_cases}
-use Rattle.gm_lists.proofs.Lists.{Has-filter, filter-Has, Has-map, map-Has}
-use Rattle.gm_lists.proofs.Order.{same_from, same_is}
+use Rattle.gm_lists.proofs.Finding.{found, not_both}
 use Rattle.gm_lists.proofs.PutInPlace.{left_differs}
 use Rattle.gm_lists.proofs.PutTogether.{put_all_stays, put_all_there}
-use Rattle.gm_lists.proofs.Putting.{one, put_there, put_stays}
-use Rattle.gm_lists.proofs.Sorting.{Has-permutation}
-use Rattle.gm_state.specs.Records.{Records, IsState, name, provider}
-use Rattle.gm_state.specs.Rows.{Tables, MirrorRow, ComponentRow, mirror_row, component_row}
-use Rattle.gm_changes.specs.Decides.{Changed, PutsInPlace, changed_by, put_some, without_some}
-use Rattle.gm_registry.specs.Changes.{with_component, with_some_mirror, without_components, component_key}
-use Rattle.gm_rows.specs.ReadableTables.{HoldState}
-use Rattle.gm_registry.specs.Fitting.{HasFreeNumber, HasNoComponents, IsPlaced}
-use Rattle.gm_registry.specs.FittingChanges.{ArePlacedInTurn, FitsRecords, without_gone}
 use Rattle.gm_registry.proofs.Written.{components_left, left_by, left_held, with_mirror_held}
 
 -- what holds of each one holds of all, and what holds of any one holds of one that is there

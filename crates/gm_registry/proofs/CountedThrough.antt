@@ -1,20 +1,7 @@
 -- The numbers of the commands through a change.
-use Rattle.std.proofs.Common.{◌≡◌, ℕ, suc, ◌+◌, true, List, ◌∷◌, map, length, refl, sym, ap, subst, ◌∙◌, arith, IsPermutation}
-use Rattle.std.proofs.lemmas.List.Sorted.{IsPermutation-cons}
-use Rattle.sqlite.specs.Effect.{Database}
-use Rattle.sqlite.specs.State.{State}
-use Rattle.sqlite.specs.Held.{Held, state}
+use Rattle.gm_registry.proofs.Common.{◌≡◌, ℕ, suc, ◌+◌, true, List, ◌∷◌, map, length, refl, sym, ap, subst, ◌∙◌, arith, IsPermutation, IsPermutation-cons, Database, State, Held, state, inside_as, begun, Tables, CommandRow, Changed, registry_schema, HasRows, HasCounted, SeesTables, IsInside, AreNumbered, numbers_of, Pending, Stays, Goes, left_of, with_records, with_change, settled, command_row, count_of}
 use Rattle.sqlite_trees.specs.declared.store.Store as store
 use Rattle.sqlite_rows.specs.Calls.{IsInside as IsInsideBy}
-use Rattle.sqlite_rows.proofs.Statements.{inside_as, begun}
-use Rattle.gm_state.specs.Rows.{Tables, CommandRow}
-use Rattle.gm_changes.specs.Decides.{Changed}
-use Rattle.gm_rows.specs.Schema.{registry_schema}
-use Rattle.gm_rows.specs.Tables.{HasRows, HasCounted, SeesTables, IsInside, AreNumbered, numbers_of}
-use Rattle.gm_registry.specs.declared.intents.Pending.{Pending}
-use Rattle.gm_registry.specs.declared.intents.Pending.TheVariants.{Stays, Goes}
-use Rattle.gm_registry.specs.Changes.{left_of, with_records, with_change, settled, command_row}
-use Rattle.gm_registry.specs.Replies.{count_of}
 use Rattle.gm_registry.proofs.Written.{with_records_is}
 
 -- one command more, under the next number

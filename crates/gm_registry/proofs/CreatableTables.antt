@@ -1,17 +1,12 @@
 -- Nothing refuses the tables of a registry when they are made.
-use Rattle.std.proofs.Common.{◌≡◌, List, ℕ, false, refl, arith}
+use Rattle.gm_registry.proofs.Common.{◌≡◌, List, ℕ, false, refl, arith, lacks_sequence, Schema, Table, IsCreatable, about_text, mirrors_text, components_text, intents_text, commands_text, patches_text, about, mirrors, components, intents, commands, patches, no_schema, with_about, with_mirrors, first_schema, registry_schema}
 use Rattle.std.specs.Char.{encode_utf8}
 use Rattle.std.specs.Float.Ieee
-use Rattle.sqlite.specs.Does.{lacks_sequence}
-use Rattle.sqlite.specs.Schema.{Schema}
-use Rattle.sqlite.specs.Table.{Table}
 use Rattle.sqlite_schema.specs.Names.{same_name}
 use Rattle.sqlite_tied.specs.Compute.{everything}
 use Rattle.sqlite_trees.specs.Sound.{begins, fits_kind, is_free_name, same_name as same_word}
 use Rattle.sqlite_value.specs.Order.{value_cmp}
-use Rattle.sqlite_rows.proofs.StoppingCreates.{IsCreatable}
-use Rattle.gm_rows.specs.Texts.{about_text, mirrors_text, components_text, intents_text, commands_text, patches_text}
-use Rattle.gm_rows.specs.Schema.{about, mirrors, components, intents, commands, patches, no_schema, with_about, with_mirrors, with_components, with_intents, first_schema, registry_schema}
+use Rattle.gm_rows.specs.Schema.{with_components, with_intents}
 use Rattle.gm_registry.proofs.TextMeanings.{Defines, about_is, mirrors_is, components_is, intents_is, commands_is, patches_is}
 
 about_creatable : IsCreatable no_schema about_text (record about { tree = 0 })

@@ -1,10 +1,5 @@
 -- A store of either schema is one of ours, which an opening knows.
-use Rattle.std.proofs.Common.{inl, inr}
-use Rattle.sqlite.specs.Tree.{Trees}
-use Rattle.sqlite_catalog.specs.Listing.{IsSound}
-use Rattle.gm_rows.specs.Schema.{first_schema, registry_schema}
-use Rattle.gm_registry.specs.Opening.{HasOurTables, IsKnownStore}
-use Rattle.gm_registry.specs.declared.edition.Edition.TheVariants.{First, Second}
+use Rattle.gm_registry.proofs.Common.{inl, inr, Trees, IsSound, first_schema, registry_schema, HasOurTables, IsKnownStore, First, Second}
 
 pub first_is_ours : (db : Trees) → IsSound first_schema db → HasOurTables db
 first_is_ours db sound = (First, sound)

@@ -1,32 +1,8 @@
 -- Why the queries of a registry fail.
-use Rattle.std.proofs.Common.{◌≡◌, ◌⊎◌, inl, inr, ℕ, true, List, [], ◌∷◌, IsTrue, IsSome, ◌≤◌, arith, refl, sym, ap, subst, ◌∙◌}
-use Rattle.std.specs.List.{Any}
-use Rattle.std.proofs.lemmas.Bool.{true≢false}
-use Rattle.sqlite_disk.specs.Disk.{MoreFaults}
-use Rattle.sqlite.specs.Order.{Row}
-use Rattle.sqlite.specs.Tree.{Trees}
+use Rattle.gm_registry.proofs.Common.{◌≡◌, ◌⊎◌, inl, inr, ℕ, true, List, [], ◌∷◌, IsTrue, IsSome, ◌≤◌, arith, refl, sym, ap, subst, ◌∙◌, Any, true≢false, MoreFaults, Row, Trees, State, HasCleanDisk, FailsToQuery, Survives, FailsToCommit, Error, Text, QueryOverflows, accepts_program, is_all_of, IsReadFault, read_fault, store_failed, fault_of, query_text, tree_of, registry_schema, find_command_text, last_command_text, Memory, Store, About, Mirrors, Components, Intents, Patches, Schema, HasReadOver, known_still, schema_of, Edition, First, Second}
 use Rattle.sqlite.specs.Listing.{understood}
-use Rattle.sqlite.specs.State.{State, HasCleanDisk, FailsToQuery, Survives}
-use Rattle.sqlite.specs.Steps.{FailsToCommit}
-use Rattle.sqlite.specs.declared.error.Error.{Error}
-use Rattle.sqlite.specs.declared.types.Value.TheVariants.{Text}
-use Rattle.sqlite_sql.specs.Program.{QueryOverflows}
 use Rattle.sqlite_tied.specs.Compute.{everything}
-use Rattle.sqlite_typing.specs.Types.{accepts_program}
-use Rattle.sqlite_rows.proofs.Failing.{is_all_of, IsReadFault, read_fault, store_failed}
-use Rattle.gm_rows.specs.Faults.{fault_of}
-use Rattle.gm_rows.specs.Queries.{query_text, tree_of}
-use Rattle.gm_rows.specs.Schema.{registry_schema}
-use Rattle.gm_rows.specs.Statements.{find_command_text, last_command_text}
-use Rattle.gm_rows.specs.declared.fault.StoreFault.TheVariants.{Memory, Store}
 use Rattle.gm_rows.specs.declared.fetched.Table.{Table}
-use Rattle.gm_rows.specs.declared.fetched.Table.TheVariants.{About, Mirrors, Components, Intents, Patches}
-use Rattle.sqlite.specs.Schema.{Schema}
-use Rattle.sqlite_rows.specs.Reads.{HasReadOver}
-use Rattle.sqlite_rows.proofs.Reading.{known_still}
-use Rattle.gm_registry.specs.Opening.{schema_of}
-use Rattle.gm_registry.specs.declared.edition.Edition.{Edition}
-use Rattle.gm_registry.specs.declared.edition.Edition.TheVariants.{First, Second}
 use Rattle.gm_registry.proofs.WholeQueries.{HasTable, query_of, asked}
 use Rattle.gm_registry.proofs.TextMeanings.{find_query, find_is, last_query, last_is}
 

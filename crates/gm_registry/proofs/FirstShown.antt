@@ -1,16 +1,5 @@
 -- The row that a query shows which sorts what it finds, and shows the first alone.
-use Rattle.std.proofs.Common.{◌≡◌, inl, inr, Bool, false, List, [], ◌∷◌, map, take, get_or, IsPermutation, refl, subst₂, ap, ◌∙◌, arith}
-use Rattle.std.specs.Cmp.{IsStrictWeakOrder}
-use Rattle.std.specs.List.Sorted.{IsSortedBy}
-use Rattle.std.proofs.lemmas.List.Sorted.{IsPermutation-sym, Contains-permutation, sorted_far}
-use Rattle.sqlite.specs.Order.{Row, column}
-use Rattle.sqlite.specs.Query.{Output}
-use Rattle.sqlite.specs.declared.types.Value.{Value}
-use Rattle.sqlite_rules.proofs.ListLemmas.{contains_had}
-use Rattle.sqlite_rows.proofs.Keyed.{mapped_from, has_mapped}
-use Rattle.gm_lists.specs.Ordered.{Has}
-use Rattle.gm_rows.specs.Queries.{IsFirstBy}
-use Rattle.gm_rows.proofs.ListMembers.{has_from, stands_from, stands_permuted}
+use Rattle.gm_registry.proofs.Common.{◌≡◌, inl, inr, Bool, false, List, [], ◌∷◌, map, take, get_or, IsPermutation, refl, subst₂, ap, ◌∙◌, arith, IsStrictWeakOrder, IsSortedBy, IsPermutation-sym, Contains-permutation, sorted_far, Row, column, Output, Value, contains_had, mapped_from, has_mapped, Has, IsFirstBy, has_from, stands_from, stands_permuted}
 use Rattle.gm_registry.proofs.FoundReply.{nothing_found}
 
 -- the value that it is sorted by

@@ -1,22 +1,10 @@
 -- Why the deletion of all rows of a table fails: no rule refuses that of intents, of bytes, or of
 -- the record of `about`.
-use Rattle.std.proofs.Common.{◌≡◌, inl, inr, Bool, true, false, [], ◌∷◌, refl}
-use Rattle.std.specs.Prelude.{⊤}
-use Rattle.sqlite.specs.Tree.{Trees}
-use Rattle.sqlite.specs.Term.{col}
+use Rattle.gm_registry.proofs.Common.{◌≡◌, inl, inr, Bool, true, false, [], ◌∷◌, refl, ⊤, Trees, col, is_all_of, scan, clear_stops, references_fit, Unique, ForeignKey, ProgramOverflows, accepts_program, intents, patches, registry_schema, settle_text, drop_patches_text}
 use Rattle.sqlite.specs.Listing.{understood}
-use Rattle.sqlite_rows.proofs.Failing.{is_all_of}
-use Rattle.sqlite_rows.proofs.Finding.{scan}
-use Rattle.sqlite_rows.proofs.StoppingDeletes.{clear_stops}
 use Rattle.sqlite_schema.specs.Names.{same_name}
-use Rattle.sqlite_schema.specs.Rules.{references_fit}
-use Rattle.sqlite_schema.specs.declared.schema.Constraint.TheVariants.{Unique, ForeignKey}
-use Rattle.sqlite_sql.specs.Program.{ProgramOverflows}
 use Rattle.sqlite_tied.specs.Compute.{everything}
-use Rattle.sqlite_typing.specs.Types.{accepts_program}
 use Rattle.sqlite_value.specs.Keys.{joined}
-use Rattle.gm_rows.specs.Schema.{intents, patches, registry_schema}
-use Rattle.gm_rows.specs.Statements.{settle_text, drop_patches_text}
 use Rattle.gm_registry.proofs.ChangedTables.{idle}
 use Rattle.gm_registry.proofs.Failures.{never}
 use Rattle.gm_registry.proofs.FittingTables.{apart, refers}

@@ -1,46 +1,11 @@
 -- Why the insertion of a command fails: no rule of its table refuses it if its key and its
 -- number are free.
-use Rattle.std.proofs.Common.{◌≡◌, inl, inr, pos, ◌^◌, ◌<◌, ◌≤◌, true, false, not, ◌&&◌, [], ◌∷◌, length, refl, sym, ap, subst, ◌∙◌, arith}
-use Rattle.std.specs.Ordering.{is_eq}
-use Rattle.std.specs.List.{AllByRecursion, list_all}
-use Rattle.std.proofs.lemmas.Bool.{true≢false, false_from_ne_true, and_parts}
-use Rattle.sqlite.specs.Order.{Row, column}
-use Rattle.sqlite.specs.Collation.TheVariants.{Binary}
-use Rattle.sqlite.specs.Tree.{Trees}
-use Rattle.sqlite.specs.Command.TheVariants.{Insert}
-use Rattle.sqlite.specs.Source.TheVariants.{Values}
-use Rattle.sqlite.specs.Rowids.TheVariants.{Chosen}
+use Rattle.gm_registry.proofs.Common.{◌≡◌, inl, inr, pos, ◌^◌, ◌<◌, ◌≤◌, true, false, not, ◌&&◌, [], ◌∷◌, length, refl, sym, ap, subst, ◌∙◌, arith, is_eq, AllByRecursion, list_all, true≢false, false_from_ne_true, and_parts, Row, column, Binary, Trees, Insert, Values, Chosen, Null, Int, Text, IsSound, Index, Enforced, Unique, ForeignKey, guards, agree, equal, entry_of, value_cmp-Int, Edit, is_taken, with_rowid, next_rowid, IsOversized, all_has, has_kept, columns, key_place, is_all_of, unique_added, next_fits, is_no_float, weight, small, IsAllowed, insert_stops, equal_text, ints_equal, same_from, Tables, CommandRow, command_values, commands, registry_schema, put_command_text, HasRows, TakesCommand, is_under}
 use Rattle.sqlite.specs.Listing.{understood}
-use Rattle.sqlite.specs.declared.types.Value.TheVariants.{Null, Int, Text}
-use Rattle.sqlite_catalog.specs.Listing.{IsSound}
-use Rattle.sqlite_schema.specs.declared.schema.Index.{Index}
-use Rattle.sqlite_schema.specs.declared.schema.Keys.TheVariants.{Enforced}
-use Rattle.sqlite_schema.specs.declared.schema.Constraint.TheVariants.{Unique, ForeignKey}
-use Rattle.sqlite_schema.specs.Rules.{guards, agree, equal}
-use Rattle.sqlite_sql.specs.Catalog.{entry_of}
 use Rattle.sqlite_tied.specs.Compute.{everything}
 use Rattle.sqlite_value.specs.Keys.{first_key}
-use Rattle.sqlite_value.proofs.OrderLemmas.{value_cmp-Int}
-use Rattle.sqlite_rules.specs.Edit.{Edit, is_taken, with_rowid, next_rowid, IsOversized}
 use Rattle.sqlite_rules.specs.Lists.{Has as Stands}
-use Rattle.sqlite_rules.proofs.ListLemmas.{all_has, has_kept}
 use Rattle.sqlite_rules.proofs.PlaceLemmas.{next_is_free}
-use Rattle.sqlite_rows.specs.Keeps.{columns}
-use Rattle.sqlite_rows.proofs.Bags.{key_place}
-use Rattle.sqlite_rows.proofs.Failing.{is_all_of}
-use Rattle.sqlite_rows.proofs.KeptUnique.{unique_added}
-use Rattle.sqlite_rows.proofs.NextNumber.{next_fits}
-use Rattle.sqlite_rows.proofs.SmallRows.{is_no_float, weight, small}
-use Rattle.sqlite_rows.proofs.Stopping.{IsAllowed, insert_stops}
-use Rattle.sqlite_rows.proofs.ValueLemmas.{equal_text, ints_equal}
-use Rattle.gm_lists.proofs.Order.{same_from}
-use Rattle.gm_state.specs.Rows.{Tables, CommandRow}
-use Rattle.gm_rows.specs.Rows.{command_values}
-use Rattle.gm_rows.specs.Schema.{commands, registry_schema}
-use Rattle.gm_rows.specs.Statements.{put_command_text}
-use Rattle.gm_rows.specs.Tables.{HasRows}
-use Rattle.gm_registry.specs.Fitting.{TakesCommand}
-use Rattle.gm_registry.specs.Replies.{is_under}
 use Rattle.gm_registry.proofs.ChangedTables.{command_typed}
 use Rattle.gm_registry.proofs.FittingTables.{apart, record_of, same_number, only, second_place, refers}
 use Rattle.gm_registry.proofs.InsideFails.{StopsOnly}

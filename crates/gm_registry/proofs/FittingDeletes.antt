@@ -1,31 +1,11 @@
 -- Why the deletion of a mirror or a component fails: no rule refuses that of a component, nor that
 -- of a mirror without components.
-use Rattle.std.proofs.Common.{◌≡◌, inl, inr, ℕ, Bool, true, false, not, List, [], ◌∷◌, refl, sym, ap, subst, ◌∙◌}
-use Rattle.std.specs.Prelude.{⊤}
-use Rattle.std.proofs.lemmas.Bool.{false_from_ne_true}
-use Rattle.sqlite.specs.Order.{column}
-use Rattle.sqlite.specs.Collation.TheVariants.{Binary}
-use Rattle.sqlite.specs.Tree.{Trees}
-use Rattle.sqlite.specs.Term.{col}
+use Rattle.gm_registry.proofs.Common.{◌≡◌, inl, inr, ℕ, Bool, true, false, not, List, [], ◌∷◌, refl, sym, ap, subst, ◌∙◌, ⊤, false_from_ne_true, column, Binary, Trees, col, Text, references_fit, equal, Unique, ProgramOverflows, accepts_program, all_has, has_filtered, has_kept, has_key, is_all_of, scan, delete_stops, equal_text, mirrors, components, registry_schema, drop_mirror_text, drop_component_text, HasNoComponents}
 use Rattle.sqlite.specs.Listing.{understood}
-use Rattle.sqlite.specs.declared.types.Value.TheVariants.{Text}
 use Rattle.sqlite_value.specs.Keys.{joined}
 use Rattle.sqlite_schema.specs.Names.{same_name}
-use Rattle.sqlite_schema.specs.Rules.{references_fit, equal}
-use Rattle.sqlite_schema.specs.declared.schema.Constraint.TheVariants.{Unique}
-use Rattle.sqlite_sql.specs.Program.{ProgramOverflows}
 use Rattle.sqlite_tied.specs.Compute.{everything}
-use Rattle.sqlite_typing.specs.Types.{accepts_program}
 use Rattle.sqlite_rules.specs.Lists.{Has as Stands}
-use Rattle.sqlite_rules.proofs.ListLemmas.{all_has, has_filtered, has_kept}
-use Rattle.sqlite_rows.proofs.Bags.{has_key}
-use Rattle.sqlite_rows.proofs.Failing.{is_all_of}
-use Rattle.sqlite_rows.proofs.Finding.{scan}
-use Rattle.sqlite_rows.proofs.StoppingDeletes.{delete_stops}
-use Rattle.sqlite_rows.proofs.ValueLemmas.{equal_text}
-use Rattle.gm_rows.specs.Schema.{mirrors, components, registry_schema}
-use Rattle.gm_rows.specs.Statements.{drop_mirror_text, drop_component_text}
-use Rattle.gm_registry.specs.Fitting.{HasNoComponents}
 use Rattle.gm_registry.proofs.ChangedTables.{idle}
 use Rattle.gm_registry.proofs.Failures.{never}
 use Rattle.gm_registry.proofs.FittingTables.{apart, parent_of, refers_by}

@@ -1,20 +1,5 @@
 -- From what a change needs of the tables to what each of its steps needs.
-use Rattle.std.proofs.Common.{◌≡◌, ◌≢◌, ◌∙◌, inl, inr, ⊎_elim, ℕ, zero, suc, ◌+◌, ◌<◌, ◌≤◌, List, [], ◌∷◌, filter, length, take, get_or, Option, Some, None, IfSome, sym, ap, subst, arith}
-use Rattle.std.specs.List.{AllByRecursion}
-use Rattle.std.proofs.lemmas.List.{length-take-le}
-use Rattle.sqlite.specs.Tree.{Trees}
-use Rattle.sqlite_rules.proofs.ListLemmas.{all_from}
-use Rattle.gm_state.specs.declared.records.Mirror.{Mirror}
-use Rattle.gm_state.specs.declared.records.Component.{Component}
-use Rattle.gm_state.specs.declared.intents.Intent.{Intent}
-use Rattle.gm_state.specs.Rows.{Tables, IntentRow, CommandRow, mirror_row, component_row, intent_rows}
-use Rattle.gm_changes.specs.Decides.{Changed}
-use Rattle.gm_rows.specs.Tables.{AreNumbered}
-use Rattle.gm_registry.specs.declared.intents.Pending.{Pending}
-use Rattle.gm_registry.specs.Changes.{left_of, with_component, with_bytes, with_components, with_intents, with_pending, with_records}
-use Rattle.gm_registry.specs.Fitting.{HasFreeNumber, HasRoom, IsPlaced, IsUncounted, TakesBytes, TakesCommand, TakesIntents, TakesMirror}
-use Rattle.gm_registry.specs.FittingChanges.{ArePlacedInTurn, FitsRecords, FitsTables}
-use Rattle.gm_registry.specs.Replies.{count_of, is_under}
+use Rattle.gm_registry.proofs.Common.{◌≡◌, ◌≢◌, ◌∙◌, inl, inr, ⊎_elim, ℕ, zero, suc, ◌+◌, ◌<◌, ◌≤◌, List, [], ◌∷◌, filter, length, take, get_or, Option, Some, None, IfSome, sym, ap, subst, arith, AllByRecursion, length-take-le, Trees, all_from, Mirror, Component, Intent, Tables, IntentRow, CommandRow, mirror_row, component_row, intent_rows, Changed, AreNumbered, Pending, left_of, with_component, with_bytes, with_components, with_intents, with_pending, with_records, HasFreeNumber, HasRoom, IsPlaced, IsUncounted, TakesBytes, TakesCommand, TakesIntents, TakesMirror, ArePlacedInTurn, FitsRecords, FitsTables, count_of, is_under}
 use Rattle.gm_registry.proofs.CountedThrough.{left_commands, records_keep}
 use Rattle.gm_registry.proofs.LastCommand.{seq_in_range}
 use Rattle.gm_registry.proofs.Written.{with_records_is}

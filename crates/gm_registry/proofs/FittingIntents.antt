@@ -1,42 +1,8 @@
 -- Why the insertion of an intent fails: no rule of its table refuses it if its number is free.
-use Rattle.std.proofs.Common.{◌≡◌, ◌≢◌, inl, inr, ℕ, pos, ◌+◌, ◌^◌, ◌<◌, ◌≤◌, true, false, not, ◌&&◌, List, [], ◌∷◌, ◌++◌, take, length, IsTrue, refl, sym, ap, subst, ◌∙◌, arith, nat_lt, ◌==◌, eq-eqb}
-use Rattle.std.specs.Ordering.{is_eq}
-use Rattle.std.specs.List.{AllByRecursion}
-use Rattle.std.proofs.lemmas.Bool.{true≢false, false_from_ne_true, not-true}
-use Rattle.std.proofs.lemmas.Bool.Decides.{nat_tests}
-use Rattle.std.proofs.lemmas.List.{length-take-le}
-use Rattle.sqlite.specs.Tree.{Trees}
-use Rattle.sqlite.specs.Command.TheVariants.{Insert}
-use Rattle.sqlite.specs.Source.TheVariants.{Values}
-use Rattle.sqlite.specs.Rowids.TheVariants.{Chosen}
+use Rattle.gm_registry.proofs.Common.{◌≡◌, ◌≢◌, inl, inr, ℕ, pos, ◌+◌, ◌^◌, ◌<◌, ◌≤◌, true, false, not, ◌&&◌, List, [], ◌∷◌, ◌++◌, take, length, IsTrue, refl, sym, ap, subst, ◌∙◌, arith, nat_lt, ◌==◌, eq-eqb, is_eq, AllByRecursion, true≢false, false_from_ne_true, not-true, nat_tests, length-take-le, Trees, Insert, Values, Chosen, Int, IsSound, Enforced, Unique, ForeignKey, rowid, value_cmp, value_cmp-Int, is_taken, with_rowid, IsOversized, some_has, all_has, test_has, guards, whole, is_all_of, unique_added, small, IsAllowed, insert_stops, is_label, Intent, Meta, Clear, Copy, Dirty, Patch, Tables, IntentRow, intent_row, intent_rows, intent_values, intents, registry_schema, put_intent_text, HasRows, with_intents, IsUnnumbered, AreShort, TakesIntents}
 use Rattle.sqlite.specs.Listing.{understood}
-use Rattle.sqlite.specs.declared.types.Value.TheVariants.{Int}
-use Rattle.sqlite_catalog.specs.Listing.{IsSound}
-use Rattle.sqlite_schema.specs.declared.schema.Keys.TheVariants.{Enforced}
-use Rattle.sqlite_schema.specs.declared.schema.Constraint.TheVariants.{Unique, ForeignKey}
 use Rattle.sqlite_tied.specs.Compute.{everything}
-use Rattle.sqlite_trees.specs.Tree.{rowid}
-use Rattle.sqlite_value.specs.Order.{value_cmp}
-use Rattle.sqlite_value.proofs.OrderLemmas.{value_cmp-Int}
-use Rattle.sqlite_rules.specs.Edit.{is_taken, with_rowid, IsOversized}
-use Rattle.sqlite_rules.proofs.ListLemmas.{some_has, all_has, test_has}
-use Rattle.sqlite_schema.specs.Rules.{guards}
-use Rattle.sqlite_rows.specs.Keeps.{whole}
-use Rattle.sqlite_rows.proofs.Failing.{is_all_of}
-use Rattle.sqlite_rows.proofs.KeptUnique.{unique_added}
-use Rattle.sqlite_rows.proofs.SmallRows.{small}
-use Rattle.sqlite_rows.proofs.Stopping.{IsAllowed, insert_stops}
-use Rattle.gm_metadata.specs.Labels.{is_label}
 use Rattle.gm_metadata.proofs.Labels.{label_parts}
-use Rattle.gm_state.specs.declared.intents.Intent.{Intent}
-use Rattle.gm_state.specs.declared.intents.Intent.TheVariants.{Meta, Clear, Copy, Dirty, Patch}
-use Rattle.gm_state.specs.Rows.{Tables, IntentRow, intent_row, intent_rows}
-use Rattle.gm_rows.specs.Rows.{intent_values}
-use Rattle.gm_rows.specs.Schema.{intents, registry_schema}
-use Rattle.gm_rows.specs.Statements.{put_intent_text}
-use Rattle.gm_rows.specs.Tables.{HasRows}
-use Rattle.gm_registry.specs.Changes.{with_intents}
-use Rattle.gm_registry.specs.Fitting.{IsUnnumbered, AreShort, TakesIntents}
 use Rattle.gm_registry.proofs.ChangedTables.{intent_params, intent_typed}
 use Rattle.gm_registry.proofs.FittingTables.{apart, record_of, only, same_number, refers}
 use Rattle.gm_registry.proofs.InsideFails.{StopsOnly}

@@ -1,53 +1,15 @@
 -- Why a mirror is not put: no rule refuses it if no other mirror has its number.
-use Rattle.std.proofs.Common.{◌≡◌, inl, inr, ℤ, pos, ◌^◌, ◌<◌, ◌≤◌, Bool, true, false, not, ◌&&◌, ◌||◌, [], ◌∷◌, ◌++◌, length, Some, refl, sym, ap, subst, ◌∙◌, arith}
-use Rattle.std.specs.Ordering.{is_eq}
-use Rattle.std.specs.List.{AllByRecursion, list_all}
-use Rattle.std.proofs.lemmas.Bool.{true≢false, false_from_ne_true, and_parts, cases_Bool}
-use Rattle.sqlite.specs.Order.{Row, column}
-use Rattle.sqlite.specs.Collation.TheVariants.{Binary}
-use Rattle.sqlite.specs.Tree.{Trees}
-use Rattle.sqlite.specs.Term.{col, op2}
-use Rattle.sqlite_sql.specs.declared.ops.BinaryOp.TheVariants.{Compare}
-use Rattle.sqlite_sql.specs.declared.ops.CompareOp.TheVariants.{Eq}
-use Rattle.sqlite.specs.Rows.{shown}
+use Rattle.gm_registry.proofs.Common.{◌≡◌, inl, inr, ℤ, pos, ◌^◌, ◌<◌, ◌≤◌, Bool, true, false, not, ◌&&◌, ◌||◌, [], ◌∷◌, ◌++◌, length, Some, refl, sym, ap, subst, ◌∙◌, arith, is_eq, AllByRecursion, list_all, true≢false, false_from_ne_true, and_parts, cases_Bool, Row, column, Binary, Trees, col, op2, Compare, Eq, shown, Int, Text, Index, Unique, guards, agree, equal, references_fit, entry_of, ProgramOverflows, accepts_program, value_cmp-Int, conflicts, IsOversized, all_has, has_kept, has_put, put_all_keeps, columns, has_key, key_place, is_all_of, scan, next_fits, number_fits, upsert_stops, is_no_float, weight, small, at_once, equal_text, texts_equal, ints_equal, same_from, Tables, MirrorRow, mirror_values, mirrors, mirrors_by_name, registry_schema, upsert_mirror_text, HasRows, TakesMirror}
 use Rattle.sqlite.specs.Listing.{understood}
-use Rattle.sqlite.specs.declared.types.Value.TheVariants.{Int, Text}
-use Rattle.sqlite_schema.specs.declared.schema.Index.{Index}
-use Rattle.sqlite_schema.specs.declared.schema.Constraint.TheVariants.{Unique}
 use Rattle.sqlite_schema.specs.Names.{same_name}
-use Rattle.sqlite_schema.specs.Rules.{guards, agree, equal, references_fit}
-use Rattle.sqlite_sql.specs.Catalog.{entry_of}
-use Rattle.sqlite_sql.specs.Program.{ProgramOverflows}
 use Rattle.sqlite_tied.specs.Compute.{everything}
-use Rattle.sqlite_typing.specs.Types.{accepts_program}
 use Rattle.sqlite_value.specs.Keys.{first_key, joined}
-use Rattle.sqlite_value.proofs.OrderLemmas.{value_cmp-Int}
-use Rattle.sqlite_rules.specs.Keys.{conflicts}
-use Rattle.sqlite_rules.specs.Edit.{IsOversized}
 use Rattle.sqlite_rules.specs.Lists.{Has as Stands}
-use Rattle.sqlite_rules.proofs.ListLemmas.{all_has, has_kept}
-use Rattle.sqlite_rules.proofs.TableLemmas.{has_put, put_all_keeps}
-use Rattle.sqlite_rows.specs.Keeps.{columns}
-use Rattle.sqlite_rows.proofs.Bags.{has_key, key_place}
-use Rattle.sqlite_rows.proofs.Failing.{is_all_of}
-use Rattle.sqlite_rows.proofs.Finding.{scan}
-use Rattle.sqlite_rows.proofs.NextNumber.{next_fits, number_fits}
-use Rattle.sqlite_rows.proofs.Replacing.{upsert_stops}
-use Rattle.sqlite_rows.proofs.SmallRows.{is_no_float, weight, small}
-use Rattle.sqlite_rows.proofs.Stopping.{at_once}
-use Rattle.sqlite_rows.proofs.ValueLemmas.{equal_text, texts_equal, ints_equal}
-use Rattle.gm_lists.proofs.Order.{same_from}
-use Rattle.gm_state.specs.Rows.{Tables, MirrorRow}
-use Rattle.gm_rows.specs.Rows.{mirror_values}
-use Rattle.gm_rows.specs.Schema.{mirrors, mirrors_by_name, registry_schema}
-use Rattle.gm_rows.specs.Statements.{upsert_mirror_text}
-use Rattle.gm_rows.specs.Tables.{HasRows}
 use Rattle.gm_registry.proofs.ChangedTables.{idle, mirror_typed, only_mirrors}
 use Rattle.gm_registry.proofs.Failures.{never}
 use Rattle.gm_registry.proofs.FittingTables.{apart, parent_of, record_of, refers_by, same_number, second_place}
 use Rattle.gm_registry.proofs.InsideFails.{StopsOnly}
 use Rattle.gm_registry.proofs.TextMeanings.{nine_terms, updated, upsert}
-use Rattle.gm_registry.specs.Fitting.{TakesMirror}
 
 pub upsert_mirror_whole : is_all_of upsert_mirror_text 9
     (understood registry_schema upsert_mirror_text)

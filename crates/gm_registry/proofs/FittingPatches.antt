@@ -1,38 +1,11 @@
 -- Why the insertion of the record of bytes fails: no rule of its table refuses it if none is
 -- there.
-use Rattle.std.proofs.Common.{◌≡◌, inl, inr, ℕ, true, not, ◌&&◌, ◌==◌, List, [], ◌∷◌, length, refl, sym, ap, subst, ◌∙◌, arith, eq-eqb}
+use Rattle.gm_registry.proofs.Common.{◌≡◌, inl, inr, ℕ, true, not, ◌&&◌, ◌==◌, List, [], ◌∷◌, length, refl, sym, ap, subst, ◌∙◌, arith, eq-eqb, list_all, true≢false, not-true, Row, Trees, Insert, Values, Chosen, Blob, IsSound, Enforced, Check, Unique, ForeignKey, guards, passes, is_taken, with_rowid, IsOversized, test_has, Keeps, whole, is_all_of, unique_added, small, IsAllowed, insert_stops, length_permutation, length-map, Tables, patch_values, patches, registry_schema, put_patch_text, HasRows, TakesPatch}
 use Rattle.std.specs.Float.Ieee
-use Rattle.std.specs.List.{list_all}
-use Rattle.std.proofs.lemmas.Bool.{true≢false, not-true}
-use Rattle.sqlite.specs.Order.{Row}
-use Rattle.sqlite.specs.Tree.{Trees}
-use Rattle.sqlite.specs.Command.TheVariants.{Insert}
-use Rattle.sqlite.specs.Source.TheVariants.{Values}
-use Rattle.sqlite.specs.Rowids.TheVariants.{Chosen}
 use Rattle.sqlite.specs.Listing.{understood}
-use Rattle.sqlite.specs.declared.types.Value.TheVariants.{Blob}
-use Rattle.sqlite_catalog.specs.Listing.{IsSound}
-use Rattle.sqlite_schema.specs.declared.schema.Keys.TheVariants.{Enforced}
-use Rattle.sqlite_schema.specs.declared.schema.Constraint.TheVariants.{Check, Unique, ForeignKey}
-use Rattle.sqlite_schema.specs.Rules.{guards, passes}
 use Rattle.sqlite_sql.specs.Ops.{binary}
 use Rattle.sqlite_value.specs.Order.{value_cmp}
 use Rattle.sqlite_tied.specs.Compute.{everything}
-use Rattle.sqlite_rules.specs.Edit.{is_taken, with_rowid, IsOversized}
-use Rattle.sqlite_rules.proofs.ListLemmas.{test_has}
-use Rattle.sqlite_rows.specs.Keeps.{Keeps, whole}
-use Rattle.sqlite_rows.proofs.Failing.{is_all_of}
-use Rattle.sqlite_rows.proofs.KeptUnique.{unique_added}
-use Rattle.sqlite_rows.proofs.SmallRows.{small}
-use Rattle.sqlite_rows.proofs.Stopping.{IsAllowed, insert_stops}
-use Rattle.std.proofs.lemmas.List.Sorted.{length_permutation}
-use Rattle.std.proofs.lemmas.List.{length-map}
-use Rattle.gm_state.specs.Rows.{Tables}
-use Rattle.gm_rows.specs.Rows.{patch_values}
-use Rattle.gm_rows.specs.Schema.{patches, registry_schema}
-use Rattle.gm_rows.specs.Statements.{put_patch_text}
-use Rattle.gm_rows.specs.Tables.{HasRows}
-use Rattle.gm_registry.specs.Fitting.{TakesPatch}
 use Rattle.gm_registry.proofs.ChangedTables.{patch_typed}
 use Rattle.gm_registry.proofs.FittingTables.{apart, only, refers}
 use Rattle.gm_registry.proofs.InsideFails.{StopsOnly}

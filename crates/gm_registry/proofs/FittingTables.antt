@@ -1,33 +1,11 @@
 -- What edits of the registry's tables have in common.
-use Rattle.std.specs.Ordering.{is_eq, int_cmp}
-use Rattle.std.proofs.lemmas.Bool.Decides.{nat_tests}
-use Rattle.std.specs.List.{AllByRecursion}
-use Rattle.std.proofs.Common.{inl, inr, ℕ, pos, true, arith, ◌≡◌, ◌==◌, if◌then◌else◌, List, [], ◌∷◌, ◌||◌, false, refl, sym, ap, subst₂, ◌∙◌}
-use Rattle.std.proofs.lemmas.List.Sorted.{IsPermutation-sym}
-use Rattle.std.proofs.lemmas.Bool.{and_from, and_parts, or_right, or_cases, true≢false}
-use Rattle.sqlite.specs.Order.{Row, column}
-use Rattle.sqlite.specs.Tree.{Trees}
-use Rattle.sqlite.specs.Collation.TheVariants.{Binary}
-use Rattle.sqlite.specs.declared.types.Value.TheVariants.{Text}
-use Rattle.sqlite_catalog.specs.Listing.{IsSound}
+use Rattle.gm_registry.proofs.Common.{is_eq, int_cmp, nat_tests, AllByRecursion, inl, inr, ℕ, pos, true, arith, ◌≡◌, ◌==◌, if◌then◌else◌, List, [], ◌∷◌, ◌||◌, false, refl, sym, ap, subst₂, ◌∙◌, IsPermutation-sym, and_from, and_parts, or_right, or_cases, true≢false, Row, column, Trees, Binary, Text, IsSound, Refers, passes, equal, ForeignKey, is_null, all_of, all_has, all_from, some_has, some_from, Tables, ComponentRow, component_values, HasRows, IsAscending, Keeps, columns, has_mapped, mapped_from, components, registry_schema, stands_permuted}
 use Rattle.sqlite_schema.specs.Names.{same_name}
-use Rattle.sqlite_schema.specs.Rules.{Keeps as RulesKept, Refers, passes, equal}
+use Rattle.sqlite_schema.specs.Rules.{Keeps as RulesKept}
 use Rattle.sqlite_schema.specs.declared.schema.Among.TheVariants.{All}
-use Rattle.sqlite_schema.specs.declared.schema.Constraint.TheVariants.{ForeignKey}
-use Rattle.sqlite_sql.specs.Ops.{is_null}
-use Rattle.sqlite_trees.proofs.ListLemmas.{all_of}
 use Rattle.sqlite_value.specs.Keys.{first_key, joined}
-use Rattle.sqlite_rules.proofs.ListLemmas.{all_has, all_from, some_has, some_from}
-use Rattle.gm_state.specs.Rows.{Tables, ComponentRow}
-use Rattle.gm_rows.specs.Rows.{component_values}
-use Rattle.gm_rows.specs.Tables.{HasRows}
 use Rattle.sqlite_schema.specs.declared.schema.Table.{Table}
-use Rattle.sqlite_trees.specs.Tree.{IsAscending}
 use Rattle.sqlite_rules.specs.Lists.{Has as Stands}
-use Rattle.sqlite_rows.specs.Keeps.{Keeps, columns}
-use Rattle.sqlite_rows.proofs.Keyed.{has_mapped, mapped_from}
-use Rattle.gm_rows.specs.Schema.{components, registry_schema}
-use Rattle.gm_rows.proofs.ListMembers.{stands_permuted}
 
 -- a row of a table is that of one of its records
 pub record_of : {A : Type 0} (part : Row → Row) (row_of : A → Row) (all : List A) (rows : List Row)

@@ -1,35 +1,8 @@
 -- What the query of a key finds.
-use Rattle.std.proofs.Common.{◌≡◌, ℕ, pos, Bool, true, List, [], ◌∷◌, map, filter, length, IsPermutation, sym, ap, subst, subst₂, refl, ◌∙◌, arith}
-use Rattle.std.proofs.lemmas.List.Sorted.{IsPermutation-map, IsPermutation-trans, IsPermutation-sym, length_permutation}
-use Rattle.std.proofs.lemmas.List.Elements.{filter_agree}
-use Rattle.std.proofs.lemmas.Slice.Eq.{bytes_eq-Decides}
-use Rattle.sqlite_trees.proofs.ListLemmas.{map-map, filter-map, IsPermutation-filter}
-use Rattle.sqlite.specs.declared.types.Value.{Value}
-use Rattle.sqlite.specs.declared.types.Value.TheVariants.{Null, Int, Text}
+use Rattle.gm_registry.proofs.Common.{◌≡◌, ℕ, pos, Bool, true, List, [], ◌∷◌, map, filter, length, IsPermutation, sym, ap, subst, subst₂, refl, ◌∙◌, arith, IsPermutation-map, IsPermutation-trans, IsPermutation-sym, length_permutation, filter_agree, bytes_eq-Decides, map-map, filter-map, IsPermutation-filter, Value, Null, Int, Text, has_filtered, Row, column, Binary, IsAnswer, State, Shown, reads_as, equal, columns, texts_equal, overlaid, found, mapped_from, has_key, key_place, settled_schema, settled_rows, Has, Tables, CommandRow, find_command_text, registry_schema, command_values, SeesTables, HasCounted, reply_in, reply_values, is_under, IsKept, IsFree, has_from, stands_permuted}
 use Rattle.sqlite_rules.specs.Lists.{Has as Stands}
-use Rattle.sqlite_rules.proofs.ListLemmas.{has_filtered}
-use Rattle.sqlite.specs.Order.{Row, column}
-use Rattle.sqlite.specs.Collation.TheVariants.{Binary}
-use Rattle.sqlite.specs.Query.{IsAnswer}
-use Rattle.sqlite.specs.State.{State, Shown}
-use Rattle.sqlite.proofs.Callers.{reads_as}
-use Rattle.sqlite_schema.specs.Rules.{equal}
-use Rattle.sqlite_rows.specs.Keeps.{columns}
-use Rattle.sqlite_rows.proofs.ValueLemmas.{texts_equal}
-use Rattle.sqlite_rows.proofs.Finding.{overlaid, found}
-use Rattle.sqlite_rows.proofs.Keyed.{mapped_from}
-use Rattle.sqlite_rows.proofs.Bags.{has_key, key_place}
-use Rattle.sqlite_rows.proofs.Statements.{settled_schema, settled_rows}
 use Rattle.gm_state.specs.declared.intents.Reply.{Reply}
-use Rattle.gm_lists.specs.Ordered.{Has}
-use Rattle.gm_state.specs.Rows.{Tables, CommandRow}
-use Rattle.gm_rows.specs.Statements.{find_command_text}
-use Rattle.gm_rows.specs.Schema.{registry_schema}
-use Rattle.gm_rows.specs.Rows.{command_values}
-use Rattle.gm_rows.specs.Tables.{SeesTables, HasCounted}
-use Rattle.gm_registry.specs.Replies.{reply_in, reply_values, is_under, IsKept, IsFree}
 use Rattle.gm_registry.proofs.TextMeanings.{find_query, find_is, shown_terms, by_key}
-use Rattle.gm_rows.proofs.ListMembers.{has_from, stands_permuted}
 
 -- what the query shows of a row, from its columns
 abbrev of_columns : Row → Row

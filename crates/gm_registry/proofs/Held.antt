@@ -1,36 +1,8 @@
 -- A registry that was read as a state has tables of it.
-use Rattle.std.proofs.Common.{◌≡◌, ◌∙◌, inl, inr, ℕ, pos, ◌≤◌, arith, List, [], ◌∷◌, map, length, refl, sym, ap, subst, subst₂}
+use Rattle.gm_registry.proofs.Common.{◌≡◌, ◌∙◌, inl, inr, ℕ, pos, ◌≤◌, arith, List, [], ◌∷◌, map, length, refl, sym, ap, subst, subst₂, and_parts, length-map, IsPermutation-refl, IsPermutation-map, Row, column, Database, Held, Trees, Int, Text, IsSound, mapped_from, Keeps, columns, whole, map-map, Ghosts, Records, Tables, CommandRow, mirror_row, component_row, intent_rows, patch_rows, Has, Intent, shown_places, AreTablesOf, AreRepliesInRange, IsInRange, about_values, mirror_values, component_values, intent_values, command_values, patch_values, mirror_shown, component_shown, TablesSay, RepliesSay, registry_schema, mirrors, components, intents, patches, HasRows, AreNumbered, HasRisingRowids, numbers_of, columns_at, shown_intent, shown_patch, Mirrors, Components, Intents, Patches, AreUpTo, all_numbers, has_from, stands_from, text_in, number_in, rows_numbered}
 use Rattle.std.specs.List.Sorted.{IsPermutation}
-use Rattle.std.proofs.lemmas.Bool.{and_parts}
-use Rattle.std.proofs.lemmas.List.{length-map}
-use Rattle.std.proofs.lemmas.List.Sorted.{IsPermutation-refl, IsPermutation-map}
-use Rattle.sqlite.specs.Order.{Row, column}
-use Rattle.sqlite.specs.Effect.{Database}
-use Rattle.sqlite.specs.Held.{Held}
-use Rattle.sqlite.specs.Tree.{Trees}
-use Rattle.sqlite.specs.declared.types.Value.TheVariants.{Int, Text}
-use Rattle.sqlite_catalog.specs.Listing.{IsSound}
-use Rattle.sqlite_rows.proofs.Keyed.{mapped_from}
-use Rattle.sqlite_rows.specs.Keeps.{Keeps, columns, whole}
 use Rattle.sqlite_rules.specs.Lists.{Has as Stands}
-use Rattle.sqlite_trees.proofs.ListLemmas.{map-map}
-use Rattle.sqlite_trees.specs.declared.store.Store.{Ghosts}
-use Rattle.gm_state.specs.Records.{Records}
-use Rattle.gm_state.specs.Rows.{Tables, CommandRow, mirror_row, component_row, intent_rows, patch_rows}
-use Rattle.gm_lists.specs.Ordered.{Has}
-use Rattle.gm_state.specs.declared.intents.Intent.{Intent}
-use Rattle.gm_rows.specs.Queries.{shown_places}
-use Rattle.gm_rows.specs.ReadableTables.{AreTablesOf, AreRepliesInRange, IsInRange}
 use Rattle.gm_registry.specs.Registry as of
-use Rattle.gm_rows.specs.Rows.{about_values, mirror_values, component_values, intent_values, command_values, patch_values}
-use Rattle.gm_rows.specs.Says.{mirror_shown, component_shown, TablesSay, RepliesSay}
-use Rattle.gm_rows.specs.Schema.{registry_schema, mirrors, components, intents, patches}
-use Rattle.gm_rows.specs.Tables.{HasRows, AreNumbered, HasRisingRowids, numbers_of}
-use Rattle.gm_rows.specs.Values.{columns_at, shown_intent, shown_patch}
-use Rattle.gm_rows.specs.declared.fetched.Table.TheVariants.{Mirrors, Components, Intents, Patches}
-use Rattle.gm_rows.proofs.CountedNumbers.{AreUpTo, all_numbers}
-use Rattle.gm_rows.proofs.ListMembers.{has_from, stands_from}
-use Rattle.gm_rows.proofs.RowsSayTables.{text_in, number_in, rows_numbered}
 use Rattle.gm_registry.proofs.Stored.{with_null, with_one_null, intent_whole, patch_whole, command_in, text_is, number_is, at_most, typed, present, nine_whole, command_columns, command_typed, command_present}
 use Rattle.gm_registry.proofs.ApartCommands.{apart}
 

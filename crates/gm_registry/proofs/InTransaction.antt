@@ -1,22 +1,6 @@
 -- A transaction: what its calls and its end leave, if it is committed and if it is undone.
-use Rattle.std.proofs.Common.{◌≡◌, true, false, [], Result, Ok, Err, IfErr, OnOk, OnErr, IsTrue, sym, subst, arith}
-use Rattle.sqlite_trees.specs.declared.store.Store.{Ghosts}
-use Rattle.sqlite.specs.Effect.{Database}
-use Rattle.sqlite.specs.Tree.{Trees}
-use Rattle.sqlite.specs.Held.{Held, state}
-use Rattle.sqlite.specs.State.{State, HasCleanDisk, KeepsCommit, KeepsCounts, Shows, Survives, IsRolledBack}
-use Rattle.sqlite.specs.Steps.{FailsToCommit}
-use Rattle.sqlite.specs.declared.error.Error.{Error}
-use Rattle.sqlite.proofs.Callers.{survives_begin}
-use Rattle.sqlite.proofs.StateLemmas.{survives_then}
+use Rattle.gm_registry.proofs.Common.{◌≡◌, true, false, [], Result, Ok, Err, IfErr, OnOk, OnErr, IsTrue, sym, subst, arith, Ghosts, Database, Trees, Held, state, State, HasCleanDisk, KeepsCommit, KeepsCounts, Shows, Survives, IsRolledBack, FailsToCommit, Error, survives_begin, survives_then, committed, not_committed, rolled, Tables, fault_of, registry_schema, HasCounted, IsInside, SeesTables, AreNumbered, Store, StoreFailed}
 use Rattle.sqlite_rows.specs.Calls.{IsInside as IsInsideBy}
-use Rattle.sqlite_rows.proofs.Statements.{committed, not_committed, rolled}
-use Rattle.gm_state.specs.Rows.{Tables}
-use Rattle.gm_rows.specs.Faults.{fault_of}
-use Rattle.gm_rows.specs.Schema.{registry_schema}
-use Rattle.gm_rows.specs.Tables.{HasCounted, IsInside, SeesTables, AreNumbered}
-use Rattle.gm_rows.specs.declared.fault.StoreFault.TheVariants.{Store}
-use Rattle.gm_registry.specs.Registry.{StoreFailed}
 use Rattle.gm_registry.proofs.CountedThrough.{begun_rows, counted_inside}
 use Rattle.gm_registry.proofs.Failures.{commit_failed, failed_since, failed_until}
 use Rattle.gm_registry.proofs.StepsInTurn.{Failed}

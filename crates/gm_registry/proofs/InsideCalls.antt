@@ -1,29 +1,6 @@
 -- Calls within a transaction that change the tables: a statement, calls in turn, and the end.
-use Rattle.std.proofs.Common.{◌≡◌, ◌∙◌, ℕ, ◌+◌, ◌≤◌, ◌||◌, true, false, List, length, None, Result, Ok, Err, IfErr, OnOk, IsErrAnd, IsTrue, refl, sym, ap, subst, arith}
-use Rattle.sqlite_trees.specs.declared.store.Store.{Ghosts}
-use Rattle.sqlite.specs.Order.{Row}
-use Rattle.sqlite.specs.Tree.{Trees}
-use Rattle.sqlite.specs.Command.{Command}
-use Rattle.sqlite.specs.Effect.{Database, is_query}
-use Rattle.sqlite.specs.Held.{Held, state}
-use Rattle.sqlite.specs.Listing.{understood}
-use Rattle.sqlite.specs.State.{State, ExecutesInside, IsRolledBack, Runs, Survives, Writes, is_pragma}
-use Rattle.sqlite.specs.Steps.{FailsToCommit}
-use Rattle.sqlite.specs.declared.error.Error.{Error}
+use Rattle.gm_registry.proofs.Common.{◌≡◌, ◌∙◌, ℕ, ◌+◌, ◌≤◌, ◌||◌, true, false, List, length, None, Result, Ok, Err, IfErr, OnOk, IsErrAnd, IsTrue, refl, sym, ap, subst, arith, Ghosts, Row, Trees, Command, Database, is_query, Held, state, understood, State, ExecutesInside, IsRolledBack, Runs, Survives, Writes, is_pragma, FailsToCommit, Error, survives_begin, survives_then, is_all_of, keeps_on, lasts, if_err, on_err, Makes, at_inside, keeps_held, stays_inside, Tables, fault_of, registry_schema, AreNumbered, HasRows, IsInside, HasRoom, ChangesInside, DiskKept, HasTables, WritesGiven, seen}
 use Rattle.sqlite.specs.declared.transaction.Transaction.{Transaction}
-use Rattle.sqlite.proofs.Callers.{survives_begin}
-use Rattle.sqlite.proofs.StateLemmas.{survives_then}
-use Rattle.sqlite_rows.proofs.Failing.{is_all_of}
-use Rattle.sqlite_rows.proofs.Looping.{keeps_on, lasts}
-use Rattle.sqlite_rows.proofs.Refusing.{if_err, on_err}
-use Rattle.sqlite_rows.proofs.Statements.{Makes, at_inside, keeps_held}
-use Rattle.sqlite_rows.proofs.Stopping.{stays_inside}
-use Rattle.gm_state.specs.Rows.{Tables}
-use Rattle.gm_rows.specs.Faults.{fault_of}
-use Rattle.gm_rows.specs.Schema.{registry_schema}
-use Rattle.gm_rows.specs.Tables.{AreNumbered, HasRows, IsInside}
-use Rattle.gm_registry.specs.Fitting.{HasRoom}
-use Rattle.gm_registry.specs.Registry.{ChangesInside, DiskKept, HasTables, WritesGiven, seen}
 use Rattle.gm_registry.proofs.CallsLeave.{never_ok}
 use Rattle.gm_registry.proofs.InTransaction.{CommitsSeen, HasCommitted, begun_tables, commit_fails, commit_leaves, commit_survives, commits, commits_not, inside_tables, undone_fails, undone_tables}
 use Rattle.gm_registry.proofs.InsideFails.{StopsOnly, inside_fails, passed_on}

@@ -1,24 +1,5 @@
 -- From why a statement stops to why its call within a transaction fails.
-use Rattle.std.proofs.Common.{◌≡◌, ◌⊎◌, ℕ, ◌||◌, true, false, List, length, Option, None, Result, Ok, Err, IsSome, IsTrue, IsErrAnd, ap, subst, sym, ◌∙◌}
-use Rattle.sqlite_disk.specs.Disk.{MoreFaults}
-use Rattle.sqlite_catalog.specs.Listing.{IsSound}
-use Rattle.sqlite.specs.Order.{Row}
-use Rattle.sqlite.specs.Tree.{Trees}
-use Rattle.sqlite.specs.Schema.{Schema}
-use Rattle.sqlite.specs.Command.{Command}
-use Rattle.sqlite.specs.Does.{Does}
-use Rattle.sqlite.specs.Effect.{Database, is_query}
-use Rattle.sqlite.specs.Listing.{understood}
-use Rattle.sqlite.specs.State.{State, is_pragma, ExecutesInside}
-use Rattle.sqlite.specs.declared.error.Error.{Error}
-use Rattle.sqlite.proofs.Callers.{statement_of}
-use Rattle.sqlite_rows.proofs.Failing.{is_all_of}
-use Rattle.sqlite_rows.proofs.Stopping.{stays_inside, at_once, inside_fault}
-use Rattle.gm_state.specs.Rows.{Tables}
-use Rattle.gm_rows.specs.Faults.{OnOther, fault_of}
-use Rattle.gm_rows.specs.declared.fault.StoreFault.TheVariants.{Store}
-use Rattle.gm_rows.specs.Schema.{registry_schema}
-use Rattle.gm_rows.specs.Tables.{HasRows, IsInside}
+use Rattle.gm_registry.proofs.Common.{◌≡◌, ◌⊎◌, ℕ, ◌||◌, true, false, List, length, Option, None, Result, Ok, Err, IsSome, IsTrue, IsErrAnd, ap, subst, sym, ◌∙◌, MoreFaults, IsSound, Row, Trees, Schema, Command, Does, Database, is_query, understood, State, is_pragma, ExecutesInside, Error, statement_of, is_all_of, stays_inside, at_once, inside_fault, Tables, OnOther, fault_of, Store, registry_schema, HasRows, IsInside}
 use Rattle.gm_registry.proofs.Failures.{told}
 use Rattle.gm_registry.proofs.TextMeanings.{Means}
 

@@ -1,28 +1,7 @@
 -- No two commands of a registry stand under one key.
-use Rattle.std.proofs.Common.{◌≡◌, ◌≤◌, inl, inr, ℕ, Bool, true, List, [], ◌∷◌, map, filter, length, refl, sym, ap, subst, ◌∙◌, arith}
-use Rattle.std.proofs.lemmas.List.{length-map}
-use Rattle.std.proofs.lemmas.List.Sorted.{IsPermutation-sym, length_permutation}
-use Rattle.std.proofs.lemmas.List.Elements.{filter_agree}
-use Rattle.std.proofs.lemmas.Slice.Eq.{bytes_eq-Decides}
-use Rattle.sqlite_trees.proofs.ListLemmas.{filter-map, IsPermutation-filter}
-use Rattle.sqlite.specs.Order.{Row, column}
-use Rattle.sqlite.specs.Tree.{Trees}
-use Rattle.sqlite.specs.Collation.TheVariants.{Binary}
-use Rattle.sqlite.specs.declared.types.Value.TheVariants.{Text}
-use Rattle.sqlite_schema.specs.Rules.{equal}
+use Rattle.gm_registry.proofs.Common.{◌≡◌, ◌≤◌, inl, inr, ℕ, Bool, true, List, [], ◌∷◌, map, filter, length, refl, sym, ap, subst, ◌∙◌, arith, length-map, IsPermutation-sym, length_permutation, filter_agree, bytes_eq-Decides, filter-map, IsPermutation-filter, Row, column, Trees, Binary, Text, equal, Keeps, columns, has_key, key_place, mapped_from, has_mapped, texts_equal, same_from, Tables, CommandRow, registry_schema, commands, commands_by_key, command_values, Holds, is_under, stands_permuted}
 use Rattle.sqlite_rules.specs.Lists.{Has as Stands}
-use Rattle.sqlite_rows.specs.Keeps.{Keeps, columns}
-use Rattle.sqlite_rows.proofs.Bags.{has_key, key_place}
-use Rattle.sqlite_rows.proofs.Keyed.{mapped_from, has_mapped}
 use Rattle.sqlite_rows.proofs.Unique.{one_of_a_key}
-use Rattle.sqlite_rows.proofs.ValueLemmas.{texts_equal}
-use Rattle.gm_lists.proofs.Order.{same_from}
-use Rattle.gm_state.specs.Rows.{Tables, CommandRow}
-use Rattle.gm_rows.specs.Schema.{registry_schema, commands, commands_by_key}
-use Rattle.gm_rows.specs.Rows.{command_values}
-use Rattle.gm_rows.specs.Tables.{Holds}
-use Rattle.gm_registry.specs.Replies.{is_under}
-use Rattle.gm_rows.proofs.ListMembers.{stands_permuted}
 
 none_left : {A : Type 0} (xs : List A) → length xs ≤ 0 → xs ≡ []
 none_left [] few = refl

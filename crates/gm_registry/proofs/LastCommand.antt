@@ -1,36 +1,10 @@
 -- What the query of the last command finds.
-use Rattle.std.proofs.Common.{◌≡◌, inl, inr, ℕ, zero, suc, pos, ◌+◌, ◌<◌, ◌≤◌, List, [], ◌∷◌, map, length, get_or, IsPermutation, refl, sym, ap, subst, subst₂, ◌∙◌, arith, slice_get, Some, Option, true}
-use Rattle.std.specs.Ordering.{is_lt}
-use Rattle.std.proofs.lemmas.List.Sorted.{IsPermutation-map, IsPermutation-trans, IsPermutation-sym, ranks_by, IsStrictWeakOrder-flip}
-use Rattle.std.specs.List.Sorted.{IsSortedBy}
-use Rattle.sqlite_trees.proofs.ListLemmas.{map-map}
-use Rattle.sqlite.specs.Order.{Row, column}
-use Rattle.sqlite_value.specs.Order.{value_cmp}
-use Rattle.sqlite_value.proofs.OrderLemmas.{value_cmp_total, value_cmp-Int, then-Equal}
-use Rattle.sqlite.specs.declared.types.Value.{Value}
-use Rattle.sqlite.specs.declared.types.Value.TheVariants.{Null, Int}
-use Rattle.sqlite.specs.Query.{IsAnswer, Output, output, output_cmp}
-use Rattle.sqlite.specs.State.{State, Shown}
-use Rattle.sqlite.proofs.Callers.{reads_as}
+use Rattle.gm_registry.proofs.Common.{◌≡◌, inl, inr, ℕ, zero, suc, pos, ◌+◌, ◌<◌, ◌≤◌, List, [], ◌∷◌, map, length, get_or, IsPermutation, refl, sym, ap, subst, subst₂, ◌∙◌, arith, slice_get, Some, Option, true, is_lt, IsPermutation-map, IsPermutation-trans, IsPermutation-sym, ranks_by, IsStrictWeakOrder-flip, IsSortedBy, map-map, Row, column, value_cmp, value_cmp_total, value_cmp-Int, then-Equal, Value, Null, Int, IsAnswer, Output, output, output_cmp, State, Shown, reads_as, columns, overlaid, mapped_from, has_mapped, settled_schema, settled_rows, Has, Tables, CommandRow, last_command_text, registry_schema, command_values, SeesTables, HasCounted, AreNumbered, numbers_of, IsLastOf, count_of, is_less, is_greater, IsFirstBy, counted_up_to, has_from, stands_from, stands_permuted}
 use Rattle.sqlite_rules.specs.Lists.{Has as Stands}
-use Rattle.sqlite_rows.specs.Keeps.{columns}
-use Rattle.sqlite_rows.proofs.Finding.{overlaid}
-use Rattle.sqlite_rows.proofs.Keyed.{mapped_from, has_mapped}
-use Rattle.sqlite_rows.proofs.Statements.{settled_schema, settled_rows}
-use Rattle.gm_lists.specs.Ordered.{Has}
-use Rattle.gm_state.specs.Rows.{Tables, CommandRow}
-use Rattle.gm_rows.specs.Statements.{last_command_text}
-use Rattle.gm_rows.specs.Schema.{registry_schema}
-use Rattle.gm_rows.specs.Rows.{command_values}
-use Rattle.gm_rows.specs.Tables.{SeesTables, HasCounted, AreNumbered, numbers_of}
-use Rattle.gm_registry.specs.Replies.{IsLastOf, count_of}
 use Rattle.gm_registry.proofs.TextMeanings.{last_query, last_is}
 use Rattle.gm_registry.proofs.FirstShown.{key, first_shown}
 use Rattle.gm_registry.proofs.NumberQueries.{outs}
-use Rattle.gm_rows.specs.Queries.{is_less, is_greater, IsFirstBy}
 use Rattle.gm_rows.proofs.CountedCommands.{not_below}
-use Rattle.gm_rows.proofs.CountedNumbers.{counted_up_to}
-use Rattle.gm_rows.proofs.ListMembers.{has_from, stands_from, stands_permuted}
 
 -- what a row is sorted by, and shows
 abbrev out : Row → Output

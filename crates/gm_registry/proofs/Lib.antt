@@ -5,6 +5,7 @@ pub mod CarriedOver
 pub mod CarryingOver
 pub mod ChangedTables
 pub mod ChangesFit
+pub mod Common
 pub mod CountedThrough
 pub mod CreatableTables
 pub mod EitherSchema

@@ -1,35 +1,8 @@
 -- What the six CREATE TABLEs and the record of `about` make of a store without tables.
-use Rattle.std.proofs.Common.{◌≡◌, ◌≢◌, ℕ, true, false, List, [], ◌∷◌, pos, None, Result, Ok, Err, OnOk, IsTrue, refl, sym, ap, subst, ◌∙◌}
-use Rattle.std.specs.List.{AllByRecursion}
-use Rattle.std.proofs.lemmas.List.Sorted.{IsPermutation-refl}
-use Rattle.sqlite.specs.Table.{Table}
-use Rattle.sqlite.specs.Schema.{Schema}
-use Rattle.sqlite.specs.Command.TheVariants.{CreateTable}
-use Rattle.sqlite.specs.Does.{Tally, Does, lacks_sequence}
-use Rattle.sqlite.specs.Effect.{Database, IsDatabase}
-use Rattle.sqlite.specs.Order.{Row}
-use Rattle.sqlite.specs.Tree.{Trees}
-use Rattle.sqlite_catalog.specs.Listing.{IsSound}
-use Rattle.sqlite.specs.Listing.{understood}
-use Rattle.sqlite.specs.State.{State, mode_of, Writes, ExecutesInside}
-use Rattle.sqlite.specs.Held.{Held, state}
-use Rattle.sqlite.specs.Term.{lit}
-use Rattle.sqlite.specs.declared.types.Value.TheVariants.{Null, Int}
-use Rattle.sqlite.specs.declared.error.Error.{Error}
-use Rattle.sqlite.proofs.Callers.{statement_of, runs_as}
+use Rattle.gm_registry.proofs.Common.{◌≡◌, ◌≢◌, ℕ, true, false, List, [], ◌∷◌, pos, None, Result, Ok, Err, OnOk, IsTrue, refl, sym, ap, subst, ◌∙◌, AllByRecursion, IsPermutation-refl, Table, Schema, CreateTable, Tally, Does, lacks_sequence, Database, IsDatabase, Row, Trees, IsSound, understood, State, mode_of, Writes, ExecutesInside, Held, state, lit, Null, Int, Error, statement_of, runs_as, put_row, Keeps, columns, whole, cast_null, cast_int, gains, keeps_none, about_text, mirrors_text, components_text, intents_text, commands_text, patches_text, put_about_text, about, mirrors, components, intents, commands, patches, no_schema, with_about, with_mirrors, first_schema, registry_schema, about_values, mirror_values, component_values, intent_values, command_values, patch_values, IsInside, no_tables, AreNumbered, HasAbout, no_rows, IsBeingMade, IsBlank, IsBlankInside, IsInsideOver}
 use Rattle.sqlite_trees.specs.declared.store.Store as store
-use Rattle.sqlite_trees.specs.Tree.{put_row}
-use Rattle.sqlite_rows.specs.Keeps.{Keeps, columns, whole}
-use Rattle.sqlite_rows.proofs.ValueLemmas.{cast_null, cast_int}
-use Rattle.sqlite_rows.proofs.Inserting.{gains}
 use Rattle.sqlite_rows.proofs.Creating.{Creates, creates}
-use Rattle.sqlite_rows.proofs.Bags.{keeps_none}
-use Rattle.gm_rows.specs.Texts.{about_text, mirrors_text, components_text, intents_text, commands_text, patches_text}
-use Rattle.gm_rows.specs.Statements.{put_about_text}
-use Rattle.gm_rows.specs.Schema.{about, mirrors, components, intents, commands, patches, no_schema, with_about, with_mirrors, with_components, with_intents, first_schema, registry_schema}
-use Rattle.gm_rows.specs.Rows.{about_values, mirror_values, component_values, intent_values, command_values, patch_values}
-use Rattle.gm_rows.specs.Tables.{IsInside, no_tables, AreNumbered}
-use Rattle.gm_registry.specs.Opening.{HasAbout, no_rows, IsBeingMade, IsBlank, IsBlankInside, IsInsideOver}
+use Rattle.gm_rows.specs.Schema.{with_components, with_intents}
 use Rattle.gm_registry.proofs.TextMeanings.{Defines, about_is, mirrors_is, components_is, intents_is, commands_is, patches_is, put_about, put_about_is}
 
 -- one CREATE of a table that the text defines

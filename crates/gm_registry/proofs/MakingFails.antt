@@ -1,42 +1,11 @@
 -- Why a registry isn't made in a store without tables: no rule refuses its tables, nor the record
 -- of `about`.
-use Rattle.std.proofs.Common.{◌≡◌, inl, ℕ, pos, true, not, ◌&&◌, ◌==◌, List, [], ◌∷◌, Option, None, Result, Ok, Err, IsTrue, IsSome, refl, sym, ap, subst, ◌∙◌, arith, eq-eqb}
-use Rattle.std.specs.List.{list_all}
+use Rattle.gm_registry.proofs.Common.{◌≡◌, inl, ℕ, pos, true, not, ◌&&◌, ◌==◌, List, [], ◌∷◌, Option, None, Result, Ok, Err, IsTrue, IsSome, refl, sym, ap, subst, ◌∙◌, arith, eq-eqb, list_all, true≢false, not-true, Table, Trees, Schema, Term, lit, CreateTable, Does, Database, State, mode_of, ExecutesInside, Survives, Error, Null, Int, statement_of, test_has, is_taken, IsOversized, guards, passes, Check, Unique, ForeignKey, Enforced, IsTable, is_all_of, unique_added, small, IsAllowed, inside_fault, insert_stops, create_stops, cast_null, cast_int, OnOther, fault_of, about_values, about, registry_schema, put_about_text, Store, HasAbout, IsBeingMade, IsInsideOver}
 use Rattle.std.specs.Float.Ieee
-use Rattle.std.proofs.lemmas.Bool.{true≢false, not-true}
-use Rattle.sqlite.specs.Table.{Table}
-use Rattle.sqlite.specs.Tree.{Trees}
-use Rattle.sqlite.specs.Schema.{Schema}
-use Rattle.sqlite.specs.Term.{Term, lit}
-use Rattle.sqlite.specs.Command.TheVariants.{CreateTable}
-use Rattle.sqlite.specs.Does.{Does}
-use Rattle.sqlite.specs.Effect.{Database}
 use Rattle.sqlite.specs.Listing.{understood}
-use Rattle.sqlite.specs.State.{State, mode_of, ExecutesInside, Survives}
-use Rattle.sqlite.specs.declared.error.Error.{Error}
-use Rattle.sqlite.specs.declared.types.Value.TheVariants.{Null, Int}
-use Rattle.sqlite.proofs.Callers.{statement_of}
-use Rattle.sqlite_rules.proofs.ListLemmas.{test_has}
-use Rattle.sqlite_rules.specs.Edit.{is_taken, IsOversized}
-use Rattle.sqlite_schema.specs.Rules.{guards, passes}
-use Rattle.sqlite_schema.specs.declared.schema.Constraint.TheVariants.{Check, Unique, ForeignKey}
-use Rattle.sqlite_schema.specs.declared.schema.Keys.TheVariants.{Enforced}
 use Rattle.sqlite_sql.specs.Ops.{binary}
 use Rattle.sqlite_value.specs.Order.{value_cmp}
 use Rattle.sqlite_tied.specs.Compute.{everything}
-use Rattle.sqlite_trees.specs.Tree.{IsTable}
-use Rattle.sqlite_rows.proofs.Failing.{is_all_of}
-use Rattle.sqlite_rows.proofs.KeptUnique.{unique_added}
-use Rattle.sqlite_rows.proofs.SmallRows.{small}
-use Rattle.sqlite_rows.proofs.Stopping.{IsAllowed, inside_fault, insert_stops}
-use Rattle.sqlite_rows.proofs.StoppingCreates.{create_stops}
-use Rattle.sqlite_rows.proofs.ValueLemmas.{cast_null, cast_int}
-use Rattle.gm_rows.specs.Faults.{OnOther, fault_of}
-use Rattle.gm_rows.specs.Rows.{about_values}
-use Rattle.gm_rows.specs.Schema.{about, registry_schema}
-use Rattle.gm_rows.specs.Statements.{put_about_text}
-use Rattle.gm_rows.specs.declared.fault.StoreFault.TheVariants.{Store}
-use Rattle.gm_registry.specs.Opening.{HasAbout, IsBeingMade, IsInsideOver}
 use Rattle.gm_registry.proofs.CreatableTables.{Makes}
 use Rattle.gm_registry.proofs.Failures.{failed_since, told}
 use Rattle.gm_registry.proofs.FittingTables.{apart, only, refers}

@@ -1,41 +1,11 @@
 -- What the queries that count the commands mean, and why they fail.
-use Rattle.std.proofs.Common.{◌≡◌, ◌∙◌, ◌⊎◌, inl, inr, ℕ, zero, suc, pos, ◌<◌, Bool, true, false, min, List, [], ◌∷◌, map, filter, flat_map, length, get_or, ◌+◌, IsPermutation, Option, Some, None, refl, sym, ap, subst, codes, arith, IsTrue, IsSome}
-use Rattle.std.specs.Prelude.{slice_index_or}
-use Rattle.std.specs.Cmp.{IsStrictWeakOrder}
-use Rattle.std.specs.Ordering.{is_lt}
-use Rattle.std.specs.List.{AllZip, list_all}
-use Rattle.std.proofs.lemmas.List.{length-map}
-use Rattle.std.proofs.lemmas.List.Sorted.{length_permutation, IsStrictWeakOrder-flip, ranks_by}
-use Rattle.sqlite_disk.specs.Disk.{MoreFaults}
-use Rattle.sqlite.specs.Order.{Row}
-use Rattle.sqlite.specs.Schema.{Schema}
-use Rattle.sqlite.specs.Tree.{Trees}
-use Rattle.sqlite.specs.Collation.TheVariants.{Binary}
-use Rattle.sqlite.specs.declared.types.Value.{Value}
-use Rattle.sqlite.specs.declared.types.Value.TheVariants.{Null, Int}
-use Rattle.sqlite.specs.declared.error.Error.{Error}
-use Rattle.sqlite.specs.Term.{lit, col, holds, Env}
-use Rattle.sqlite.specs.Query.{Query, IsAnswer, Output, output, output_cmp, end, matches_as}
+use Rattle.gm_registry.proofs.Common.{◌≡◌, ◌∙◌, ◌⊎◌, inl, inr, ℕ, zero, suc, pos, ◌<◌, Bool, true, false, min, List, [], ◌∷◌, map, filter, flat_map, length, get_or, ◌+◌, IsPermutation, Option, Some, None, refl, sym, ap, subst, codes, arith, IsTrue, IsSome, slice_index_or, IsStrictWeakOrder, is_lt, AllZip, list_all, length-map, length_permutation, IsStrictWeakOrder-flip, ranks_by, MoreFaults, Row, Schema, Trees, Binary, Value, Null, Int, Error, lit, col, holds, Env, Query, IsAnswer, Output, output, output_cmp, end, matches_as, State, HasCleanDisk, Shown, FailsToQuery, Survives, CommitsShowing, reads_as, one_permutation, QueryOverflows, accepts_program, value_cmp, value_cmp_total, then-Equal, is_all_of, read_fault, scan, overlaid, read_by, failed_by, fault_of, number_text, number_of, is_less, is_greater, IsFirstBy, IsNumberShown, registry_schema, Count, Least, Greatest, Store, IsOurSchema, IsOurs, HasRead, HasFailed}
 use Rattle.sqlite.specs.Listing.{understood}
-use Rattle.sqlite.specs.State.{State, HasCleanDisk, Shown, FailsToQuery, Survives, CommitsShowing}
-use Rattle.sqlite.proofs.Callers.{reads_as, one_permutation, IsPlain}
+use Rattle.sqlite.proofs.Callers.{IsPlain}
 use Rattle.sqlite_sql.specs.Group.{Grouping, Aggregate, value_over, IsSummary}
-use Rattle.sqlite_sql.specs.Program.{QueryOverflows}
 use Rattle.sqlite_sql.specs.declared.aggregate.AggregateOp.TheVariants.{CountRows}
 use Rattle.sqlite_tied.specs.Compute.{everything}
-use Rattle.sqlite_typing.specs.Types.{accepts_program}
-use Rattle.sqlite_value.specs.Order.{value_cmp}
-use Rattle.sqlite_value.proofs.OrderLemmas.{value_cmp_total, then-Equal}
-use Rattle.sqlite_rows.proofs.Failing.{is_all_of, read_fault}
-use Rattle.sqlite_rows.proofs.Finding.{scan, overlaid}
-use Rattle.sqlite_rows.proofs.Reading.{read_by, failed_by}
-use Rattle.gm_rows.specs.Faults.{fault_of}
-use Rattle.gm_rows.specs.Queries.{number_text, number_of, is_less, is_greater, IsFirstBy, IsNumberShown}
-use Rattle.gm_rows.specs.Schema.{registry_schema}
 use Rattle.gm_rows.specs.declared.command_numbers.CommandNumber.{CommandNumber}
-use Rattle.gm_rows.specs.declared.command_numbers.CommandNumber.TheVariants.{Count, Least, Greatest}
-use Rattle.gm_rows.specs.declared.fault.StoreFault.TheVariants.{Store}
-use Rattle.gm_registry.specs.Reads.{IsOurSchema, IsOurs, HasRead, HasFailed}
 use Rattle.gm_registry.proofs.Failures.{never, told}
 use Rattle.gm_registry.proofs.FirstShown.{key, first_shown}
 use Rattle.gm_registry.proofs.TextMeanings.{Asks, end_query}

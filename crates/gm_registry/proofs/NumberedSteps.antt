@@ -1,34 +1,6 @@
 -- How many rows each statement numbers.
-use Rattle.std.proofs.Common.{◌≡◌, inl, inr, ℕ, pos, ◌+◌, List, [], ◌∷◌, Option, None, Result, Ok, Err, OnOk, IsTrue, refl, sym, ap, subst, ◌∙◌, arith}
-use Rattle.sqlite.specs.Order.{Row}
-use Rattle.sqlite.specs.Tree.{Trees}
-use Rattle.sqlite.specs.Schema.{Schema}
-use Rattle.sqlite.specs.Command.{Command}
-use Rattle.sqlite.specs.Command.TheVariants.{Insert}
-use Rattle.sqlite.specs.Source.TheVariants.{Values}
-use Rattle.sqlite.specs.Does.{Does, Tally}
-use Rattle.sqlite.specs.Effect.{Database}
-use Rattle.sqlite.specs.Listing.{understood}
-use Rattle.sqlite.specs.State.{State, Runs, Writes, ExecutesInside}
-use Rattle.sqlite.specs.declared.error.Error.{Error}
-use Rattle.sqlite.specs.declared.types.Value.TheVariants.{Null, Int, Text, Blob}
-use Rattle.sqlite.proofs.Callers.{statement_of, runs_as}
-use Rattle.sqlite_trees.specs.Tree.{put_row, rowid}
-use Rattle.sqlite_rules.specs.Edit.{next_rowid}
+use Rattle.gm_registry.proofs.Common.{◌≡◌, inl, inr, ℕ, pos, ◌+◌, List, [], ◌∷◌, Option, None, Result, Ok, Err, OnOk, IsTrue, refl, sym, ap, subst, ◌∙◌, arith, Row, Trees, Schema, Command, Insert, Values, Does, Tally, Database, understood, State, Runs, Writes, ExecutesInside, Error, Null, Int, Text, Blob, statement_of, runs_as, put_row, rowid, next_rowid, all_has, all_from, has_filtered, put_has, TakesMore, next_is, fewer_take, gains, drops, clears, upserts, at_once, Tables, MirrorRow, ComponentRow, IntentRow, CommandRow, mirror_values, component_values, intent_values, command_values, patch_values, mirrors, mirrors_by_name, components, components_by_prov, intents, commands, patches, registry_schema, HasRows, IsInside, HasRoom}
 use Rattle.sqlite_rules.specs.Lists.{Has}
-use Rattle.sqlite_rules.proofs.ListLemmas.{all_has, all_from, has_filtered}
-use Rattle.sqlite_rules.proofs.TableLemmas.{put_has}
-use Rattle.sqlite_rows.specs.Numbers.{TakesMore}
-use Rattle.sqlite_rows.proofs.NextNumber.{next_is, fewer_take}
-use Rattle.sqlite_rows.proofs.Inserting.{gains}
-use Rattle.sqlite_rows.proofs.Dropping.{drops, clears}
-use Rattle.sqlite_rows.proofs.Replacing.{upserts}
-use Rattle.sqlite_rows.proofs.Stopping.{at_once}
-use Rattle.gm_state.specs.Rows.{Tables, MirrorRow, ComponentRow, IntentRow, CommandRow}
-use Rattle.gm_rows.specs.Rows.{mirror_values, component_values, intent_values, command_values, patch_values}
-use Rattle.gm_rows.specs.Schema.{mirrors, mirrors_by_name, components, components_by_prov, intents, commands, patches, registry_schema}
-use Rattle.gm_rows.specs.Tables.{HasRows, IsInside}
-use Rattle.gm_registry.specs.Fitting.{HasRoom}
 use Rattle.gm_registry.proofs.ChangedTables.{idle, mirror_typed, component_typed, intent_typed, intent_params, command_typed, patch_typed, only_mirrors, only_components}
 use Rattle.gm_registry.proofs.TextMeanings.{Means, nine_terms, updated, upsert, by_key, drop, clear, intent_terms, command_terms, patch_terms}
 

@@ -1,21 +1,7 @@
 -- Tables are of one state with one list of intents, and the same bytes.
-use Rattle.std.proofs.Common.{◌≡◌, ◌∙◌, inl, inr, ℕ, ◌+◌, ◌<◌, true, ltb, List, [], ◌∷◌, map, refl, sym, ap, subst, arith}
+use Rattle.gm_registry.proofs.Common.{◌≡◌, ◌∙◌, inl, inr, ℕ, ◌+◌, ◌<◌, true, ltb, List, [], ◌∷◌, map, refl, sym, ap, subst, arith, cases_Bool, ltb-false, IsPermutation-trans, IsPermutation-sym, Intent, Meta, Clear, Copy, Dirty, Patch, Mirror, Component, Has, Ascends, label_lt, Records, IsState, name, provider, Tables, IntentRow, intent_row, intent_rows, mirror_row, component_row, permuted_is, AreTablesOf, shown_intent, shown_patch, same_records, one_blob, rows_numbered}
 use Rattle.std.specs.List.Sorted.{IsPermutation}
-use Rattle.std.proofs.lemmas.Bool.{cases_Bool, ltb-false}
-use Rattle.std.proofs.lemmas.List.Sorted.{IsPermutation-trans, IsPermutation-sym}
-use Rattle.gm_state.specs.declared.intents.Intent.{Intent}
-use Rattle.gm_state.specs.declared.intents.Intent.TheVariants.{Meta, Clear, Copy, Dirty, Patch}
-use Rattle.gm_state.specs.declared.records.Mirror.{Mirror}
-use Rattle.gm_state.specs.declared.records.Component.{Component}
-use Rattle.gm_lists.specs.Ordered.{Has, Ascends, label_lt}
-use Rattle.gm_state.specs.Records.{Records, IsState, name, provider}
-use Rattle.gm_state.specs.Rows.{Tables, IntentRow, intent_row, intent_rows, mirror_row, component_row}
-use Rattle.gm_lists.proofs.Sorting.{permuted_is}
-use Rattle.gm_rows.specs.ReadableTables.{AreTablesOf}
-use Rattle.gm_rows.specs.Values.{shown_intent, shown_patch}
-use Rattle.gm_rows.proofs.ReorderedValues.{same_records}
-use Rattle.gm_rows.proofs.RowsSayRecords.{one_blob, one_list as one_said}
-use Rattle.gm_rows.proofs.RowsSayTables.{rows_numbered}
+use Rattle.gm_rows.proofs.RowsSayRecords.{one_list as one_said}
 
 -- ---- intents
 

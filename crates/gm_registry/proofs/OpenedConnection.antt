@@ -1,19 +1,6 @@
 -- What a connection that was just opened stands on.
-use Rattle.std.proofs.Common.{◌≡◌, ◌≢◌, inl, inr, false, IsTrue, sym, ap, subst, ◌∙◌}
-use Rattle.sqlite.specs.Schema.{Schema}
-use Rattle.sqlite.specs.Effect.{Database}
-use Rattle.sqlite.specs.State.{State, IsLive, IsUnchanged}
-use Rattle.sqlite.specs.Tree.{Trees}
-use Rattle.sqlite_catalog.specs.Listing.{IsSound}
+use Rattle.gm_registry.proofs.Common.{◌≡◌, ◌≢◌, inl, inr, false, IsTrue, sym, ap, subst, ◌∙◌, Schema, Database, State, IsLive, IsUnchanged, Trees, IsSound, Tables, first_schema, registry_schema, no_schema, HasCounted, HasFirstCounted, SeesTables, SeesFirst, Holds, HoldsFirst, IsEmpty, SeesRegistry, no_tables, ShowsList, IsStored, schema_of, HasOurTables, IsBlank, IsForeign, IsNumbered, IsOfRegistry, SeesFirstStore, Edition, First, Second}
 use Rattle.sqlite_rows.proofs.Showing.{one_schema, opened as at_open}
-use Rattle.gm_state.specs.Rows.{Tables}
-use Rattle.gm_rows.specs.Schema.{first_schema, registry_schema, no_schema}
-use Rattle.gm_rows.specs.Tables.{HasCounted, HasFirstCounted, SeesTables, SeesFirst, Holds, HoldsFirst, IsEmpty, SeesRegistry, no_tables}
-use Rattle.gm_registry.specs.Listing.{ShowsList}
-use Rattle.gm_registry.specs.Opens.{IsStored}
-use Rattle.gm_registry.specs.Opening.{schema_of, HasOurTables, IsBlank, IsForeign, IsNumbered, IsOfRegistry, SeesFirstStore}
-use Rattle.gm_registry.specs.declared.edition.Edition.{Edition}
-use Rattle.gm_registry.specs.declared.edition.Edition.TheVariants.{First, Second}
 use Rattle.gm_registry.proofs.Abouts.{about_row}
 
 -- what is so of the tables of a store, by its schema

@@ -1,24 +1,9 @@
 -- What is asked for, and found by keys, is the part of the records that a command asks for.
-use Rattle.std.proofs.Common.{◌≡◌, ◌∙◌, inl, inr, ℕ, Bool, true, false, ◌||◌, List, [], ◌∷◌, ◌++◌, map, filter, flat_map, refl, sym, ap, subst, IsPermutation}
-use Rattle.std.specs.List.{list_any}
-use Rattle.std.proofs.lemmas.Bool.{cases_Bool}
+use Rattle.gm_registry.proofs.Common.{◌≡◌, ◌∙◌, inl, inr, ℕ, Bool, true, false, ◌||◌, List, [], ◌∷◌, ◌++◌, map, filter, flat_map, refl, sym, ap, subst, IsPermutation, list_any, cases_Bool, IsPermutation-refl, IsPermutation-trans, IsPermutation-sym, IsPermutation-cons, IsPermutation-middle, IsPermutation-append_right, list_any-IsPermutation, IsPermutation-filter, IsPermutation-flat_map, same_label, Component, Mirror, Records, IsState, IsStateOf, name, Has, Ascends, label_lt, some_any, same_is, lt_irrefl, Ascends-filter, providers_of, is_called, is_asked, part_of, under, is_asked_by, Provider}
 use Rattle.std.proofs.lemmas.List.Folds.{list_any-append, flat_map-map}
-use Rattle.std.proofs.lemmas.List.Sorted.{IsPermutation-refl, IsPermutation-trans, IsPermutation-sym, IsPermutation-cons, IsPermutation-middle, IsPermutation-append_right, list_any-IsPermutation}
-use Rattle.sqlite_trees.proofs.ListLemmas.{IsPermutation-filter, IsPermutation-flat_map}
-use Rattle.gm_metadata.specs.Images.{same_label}
 use Rattle.gm_commands.specs.declared.command.Command.{Command}
-use Rattle.gm_state.specs.declared.records.Component.{Component}
-use Rattle.gm_state.specs.declared.records.Mirror.{Mirror}
-use Rattle.gm_state.specs.Records.{Records, IsState, IsStateOf, name}
-use Rattle.gm_lists.specs.Ordered.{Has, Ascends, label_lt}
-use Rattle.gm_lists.proofs.Finding.{filter_agree, some_any}
-use Rattle.gm_lists.proofs.Order.{same_is, lt_irrefl}
-use Rattle.gm_lists.proofs.Lists.{Ascends-filter}
-use Rattle.gm_refusals.specs.Applies.{providers_of}
-use Rattle.gm_refusals.specs.PartOf.{is_called, is_asked, part_of}
-use Rattle.gm_registry.specs.Keys.{under}
-use Rattle.gm_registry.specs.Parts.{is_asked_by}
-use Rattle.gm_registry.specs.declared.components_by_key.Key.TheVariants.{Provider, Mirror as OfMirror}
+use Rattle.gm_lists.proofs.Finding.{filter_agree}
+use Rattle.gm_registry.specs.declared.components_by_key.Key.TheVariants.{Mirror as OfMirror}
 
 -- ---- tests of lists
 

@@ -1,20 +1,6 @@
 -- Rows of intents, added one by one.
-use Rattle.std.proofs.Common.{◌≡◌, ℕ, ◌+◌, ◌<◌, suc, List, [], ◌∷◌, ◌++◌, take, length, get_or, sym, ap, subst, ◌∙◌, arith, IsPermutation}
+use Rattle.gm_registry.proofs.Common.{◌≡◌, ℕ, ◌+◌, ◌<◌, suc, List, [], ◌∷◌, ◌++◌, take, length, get_or, sym, ap, subst, ◌∙◌, arith, IsPermutation, length-take-le, append_assoc, IsPermutation-middle, IsPermutation-sym, Trees, Database, State, whole, keeps_same, inside_as, Intent, Tables, IntentRow, intent_row, intent_rows, registry_schema, intent_values, HasRows, IsInside, with_intents}
 use Rattle.std.proofs.Math.Seq.{take-suc}
-use Rattle.std.proofs.lemmas.List.{length-take-le, append_assoc}
-use Rattle.std.proofs.lemmas.List.Sorted.{IsPermutation-middle, IsPermutation-sym}
-use Rattle.sqlite.specs.Tree.{Trees}
-use Rattle.sqlite.specs.Effect.{Database}
-use Rattle.sqlite.specs.State.{State}
-use Rattle.sqlite_rows.specs.Keeps.{whole}
-use Rattle.sqlite_rows.proofs.Bags.{keeps_same}
-use Rattle.sqlite_rows.proofs.Statements.{inside_as}
-use Rattle.gm_state.specs.declared.intents.Intent.{Intent}
-use Rattle.gm_state.specs.Rows.{Tables, IntentRow, intent_row, intent_rows}
-use Rattle.gm_rows.specs.Schema.{registry_schema}
-use Rattle.gm_rows.specs.Rows.{intent_values}
-use Rattle.gm_rows.specs.Tables.{HasRows, IsInside}
-use Rattle.gm_registry.specs.Changes.{with_intents}
 
 rows-append : (n : ℕ) (ts : List Intent) (t : Intent)
     → intent_rows n (ts ++ t ∷ []) ≡ intent_rows n ts ++ intent_row (n + length ts) t ∷ []

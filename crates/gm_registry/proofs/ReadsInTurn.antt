@@ -1,17 +1,5 @@
 -- Reads one after another.
-use Rattle.std.proofs.Common.{inl, inr, ◌∙◌, IsTrue, refl, ap, arith}
-use Rattle.sqlite.specs.Tree.{Trees}
-use Rattle.sqlite.specs.Effect.{Database}
-use Rattle.sqlite.specs.State.{State, HasCleanDisk, Survives}
-use Rattle.sqlite.proofs.StateLemmas.{survives_weaker}
-use Rattle.sqlite_rows.specs.Reads.{LeavesAlone}
-use Rattle.sqlite_rows.proofs.Reading.{read_then_over, failed_then_over, read_at_most, failed_leaves_over, carried_over}
-use Rattle.sqlite_rows.proofs.Statements.{settled_schema, settled_rows, rolled, kept_itself}
-use Rattle.sqlite_rows.proofs.Refusing.{unchanged_has}
-use Rattle.gm_state.specs.Rows.{Tables}
-use Rattle.gm_rows.specs.Schema.{registry_schema}
-use Rattle.gm_rows.specs.Tables.{SeesTables, HasCounted, SeesRegistry}
-use Rattle.gm_registry.specs.Reads.{IsOurSchema, IsOurs, HasRead, HasFailed}
+use Rattle.gm_registry.proofs.Common.{inl, inr, ◌∙◌, IsTrue, refl, ap, arith, Trees, Database, State, HasCleanDisk, Survives, survives_weaker, LeavesAlone, read_then_over, failed_then_over, read_at_most, failed_leaves_over, carried_over, settled_schema, settled_rows, rolled, kept_itself, unchanged_has, Tables, registry_schema, SeesTables, HasCounted, SeesRegistry, IsOurSchema, IsOurs, HasRead, HasFailed}
 
 pub read_then : (a b c : State) → HasRead a b → HasRead b c → HasRead a c
 read_then = read_then_over IsOurSchema

@@ -1,36 +1,8 @@
 -- Rows that are shown of the mirrors, or of the components under a key, say the records of a state.
-use Rattle.std.proofs.Common.{◌≡◌, ◌∙◌, ℕ, Bool, List, [], ◌∷◌, map, filter, refl, ap, subst, bytes_eq, All}
+use Rattle.gm_registry.proofs.Common.{◌≡◌, ◌∙◌, ℕ, Bool, List, [], ◌∷◌, map, filter, refl, ap, subst, bytes_eq, All, filter_agree, IsPermutation-sym, Binary, Row, column, Trees, Text, equal, filter-map, IsPermutation-filter, Keeps, columns, keeps_filter, texts_equal, Mirror, Component, Records, Tables, ComponentRow, mirror_row, component_row, same_mirror, same_component, Has-filter, row_is_under, AreUnder, under, IsShown, AreRecordsOf, mirror_values, component_values, mirror_shown, component_shown, HasRows, columns_at, numbered, nine, IsMirrorValue, IsComponentValue, Mirrors, Key, Provider, one_mirror, one_component, none_said, read_said, mirrors_shown, components_shown, said, mirror_value, component_value}
 use Rattle.std.specs.List.Sorted.{IsPermutation}
-use Rattle.std.proofs.lemmas.List.Elements.{filter_agree}
-use Rattle.std.proofs.lemmas.List.Sorted.{IsPermutation-sym}
-use Rattle.sqlite.specs.Collation.TheVariants.{Binary}
-use Rattle.sqlite.specs.Order.{Row, column}
-use Rattle.sqlite.specs.Tree.{Trees}
-use Rattle.sqlite.specs.declared.types.Value.TheVariants.{Text}
-use Rattle.sqlite_schema.specs.Rules.{equal}
-use Rattle.sqlite_trees.proofs.ListLemmas.{filter-map, IsPermutation-filter}
-use Rattle.sqlite_rows.specs.Keeps.{Keeps, columns}
-use Rattle.sqlite_rows.proofs.Bags.{keeps_filter}
-use Rattle.sqlite_rows.proofs.ValueLemmas.{texts_equal}
-use Rattle.gm_state.specs.declared.records.Mirror.{Mirror}
-use Rattle.gm_state.specs.declared.records.Component.{Component}
-use Rattle.gm_state.specs.Records.{Records}
-use Rattle.gm_state.specs.Rows.{Tables, ComponentRow, mirror_row, component_row}
-use Rattle.gm_state.proofs.SameRows.{same_mirror, same_component}
-use Rattle.gm_lists.proofs.Lists.{Has-filter}
-use Rattle.gm_registry.specs.Keys.{row_is_under, AreUnder, is_under, under}
-use Rattle.gm_rows.specs.Queries.{IsShown}
-use Rattle.gm_rows.specs.ReadableTables.{AreRecordsOf}
-use Rattle.gm_rows.specs.Rows.{mirror_values, component_values}
-use Rattle.gm_rows.specs.Says.{mirror_shown, component_shown}
-use Rattle.gm_rows.specs.Tables.{HasRows}
-use Rattle.gm_rows.specs.Values.{columns_at, numbered, nine, IsMirrorValue, IsComponentValue}
-use Rattle.gm_rows.specs.declared.fetched.Table.TheVariants.{Mirrors}
-use Rattle.gm_registry.specs.declared.components_by_key.Key.{Key}
-use Rattle.gm_registry.specs.declared.components_by_key.Key.TheVariants.{Provider, Mirror as OfMirror}
-use Rattle.gm_rows.proofs.RowsSayRecords.{one_mirror, one_component, none_said, read_said}
-use Rattle.gm_rows.proofs.RowsSayTables.{mirrors_shown, components_shown, said}
-use Rattle.gm_rows.proofs.TypedRecords.{mirror_value, component_value}
+use Rattle.gm_registry.specs.Keys.{is_under}
+use Rattle.gm_registry.specs.declared.components_by_key.Key.TheVariants.{Mirror as OfMirror}
 
 -- ---- the tests of a key
 

@@ -1,16 +1,8 @@
 -- The rowids rise in the tables of an unbroken store.
-use Rattle.std.proofs.Common.{◌≡◌, false, sym, subst, ap}
-use Rattle.sqlite.specs.Effect.{Database}
-use Rattle.sqlite.specs.Held.{Held}
-use Rattle.sqlite_catalog.specs.Listing.{IsSound}
+use Rattle.gm_registry.proofs.Common.{◌≡◌, false, sym, subst, ap, Database, Held, IsSound, IsLaidOut, Ghosts, IsShaped, IsOrdered, registry_schema, HasRisingRowids}
 use Rattle.sqlite_catalog.proofs.LayoutLemmas.{laid_out, objects_rise}
-use Rattle.sqlite_schema.specs.Rules.{IsLaidOut}
-use Rattle.sqlite_trees.specs.declared.store.Store.{Ghosts}
 use Rattle.sqlite_trees.specs.Objects.{catalog_tree, IsListed}
-use Rattle.sqlite_trees.specs.View.{IsShaped, IsOrdered}
 use Rattle.gm_registry.specs.Registry as of
-use Rattle.gm_rows.specs.Schema.{registry_schema}
-use Rattle.gm_rows.specs.Tables.{HasRisingRowids}
 
 pub rising : {S : Type 0} (g : Ghosts S)
     → ((s : S) → (g.view s).is_broken ≡ false → IsOrdered (g.view s).shape (g.view s).trees)

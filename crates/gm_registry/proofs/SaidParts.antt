@@ -1,24 +1,7 @@
 -- What rows say that are read for a command, whatever the tables hold.
-use Rattle.std.proofs.Common.{◌≡◌, ◌∙◌, refl, inl, inr, ℕ, List, map, sym, subst, IsPermutation}
-use Rattle.std.proofs.lemmas.List.Sorted.{IsPermutation-map, IsPermutation-sym, IsPermutation-trans}
-use Rattle.sqlite_trees.proofs.ListLemmas.{IsPermutation-flat_map}
-use Rattle.sqlite_trees.specs.declared.store.Store.{Ghosts}
-use Rattle.sqlite.specs.Held.{Held, state}
-use Rattle.sqlite.specs.Order.{Row}
-use Rattle.sqlite.specs.Tree.{Trees}
+use Rattle.gm_registry.proofs.Common.{◌≡◌, ◌∙◌, refl, inl, inr, ℕ, List, map, sym, subst, IsPermutation, IsPermutation-map, IsPermutation-sym, IsPermutation-trans, IsPermutation-flat_map, Ghosts, Held, state, Row, Trees, Component, Mirror, Records, IsStateOf, name, shown_places, component_shown, columns_at, numbered, nine, Mirrors, numbered_map, again_shown, shown_under, AreSaidFor, DiskKept, HaveRead, seen}
 use Rattle.gm_commands.specs.declared.command.Command.{Command}
-use Rattle.gm_state.specs.declared.records.Component.{Component}
-use Rattle.gm_state.specs.declared.records.Mirror.{Mirror}
-use Rattle.gm_state.specs.Records.{Records, IsStateOf, name}
-use Rattle.gm_rows.specs.Queries.{shown_places}
-use Rattle.gm_rows.specs.Says.{component_shown}
-use Rattle.gm_rows.specs.Values.{columns_at, numbered, nine}
-use Rattle.gm_rows.specs.declared.fetched.Table.TheVariants.{Mirrors}
-use Rattle.gm_rows.proofs.ReorderedValues.{numbered_map}
-use Rattle.gm_rows.proofs.RowsSayTables.{again_shown}
-use Rattle.gm_registry.specs.Keys.{shown_under}
-use Rattle.gm_registry.specs.Parts.{AreSaidFor}
-use Rattle.gm_registry.specs.Registry.{DiskKept, HaveRead, IsOurs, seen}
+use Rattle.gm_registry.specs.Registry.{IsOurs}
 use Rattle.gm_registry.specs.declared.components_by_key.Key.TheVariants.{Mirror as OfMirror}
 use Rattle.gm_registry.proofs.ReadsInTurn.{carried}
 

@@ -1,31 +1,8 @@
 -- Rows that say no records, and so no part.
-use Rattle.std.proofs.Common.{◌≡◌, ◌∙◌, inl, inr, ℕ, ◌||◌, List, [], ◌∷◌, ◌++◌, map, filter, flat_map, refl, sym, ap, subst, All, IsPermutation}
-use Rattle.std.proofs.lemmas.List.{append_assoc}
-use Rattle.std.proofs.lemmas.List.Sorted.{IsPermutation-map, IsPermutation-refl, IsPermutation-sym, IsPermutation-trans, list_any-IsPermutation}
-use Rattle.sqlite_trees.proofs.ListLemmas.{IsPermutation-filter, IsPermutation-flat_map}
-use Rattle.sqlite.specs.Order.{Row}
-use Rattle.sqlite.specs.Tree.{Trees}
+use Rattle.gm_registry.proofs.Common.{◌≡◌, ◌∙◌, inl, inr, ℕ, ◌||◌, List, [], ◌∷◌, ◌++◌, map, filter, flat_map, refl, sym, ap, subst, All, IsPermutation, append_assoc, IsPermutation-map, IsPermutation-refl, IsPermutation-sym, IsPermutation-trans, list_any-IsPermutation, IsPermutation-filter, IsPermutation-flat_map, Row, Trees, Has, Has-append_left, Has-append_right, Has-permutation, same_label, providers_of, is_called, Component, Mirror, name, same_mirror, same_component, shown_places, mirror_shown, component_shown, columns_at, numbered, nine, Mirrors, unmapped, same_records, none_said, one_mirror, one_component, again_shown, shown_under, AreSaidFor, SayNone, is_asked_by, Provider}
 use Rattle.gm_commands.specs.declared.command.Command.{Command}
-use Rattle.gm_lists.specs.Ordered.{Has}
-use Rattle.gm_lists.proofs.Finding.{filter_agree, Has-append_left, Has-append_right}
-use Rattle.gm_lists.proofs.Sorting.{Has-permutation}
-use Rattle.gm_metadata.specs.Images.{same_label}
-use Rattle.gm_refusals.specs.Applies.{providers_of}
-use Rattle.gm_refusals.specs.PartOf.{is_called}
-use Rattle.gm_state.specs.declared.records.Component.{Component}
-use Rattle.gm_state.specs.declared.records.Mirror.{Mirror}
-use Rattle.gm_state.specs.Records.{name}
-use Rattle.gm_state.proofs.SameRows.{same_mirror, same_component}
-use Rattle.gm_rows.specs.Queries.{shown_places}
-use Rattle.gm_rows.specs.Says.{mirror_shown, component_shown}
-use Rattle.gm_rows.specs.Values.{columns_at, numbered, nine}
-use Rattle.gm_rows.specs.declared.fetched.Table.TheVariants.{Mirrors}
-use Rattle.gm_rows.proofs.ReorderedValues.{unmapped, same_records}
-use Rattle.gm_rows.proofs.RowsSayRecords.{none_said, one_mirror, one_component}
-use Rattle.gm_rows.proofs.RowsSayTables.{again_shown}
-use Rattle.gm_registry.specs.Keys.{shown_under}
-use Rattle.gm_registry.specs.Parts.{AreSaidFor, SayNone, is_asked_by}
-use Rattle.gm_registry.specs.declared.components_by_key.Key.TheVariants.{Provider, Mirror as OfMirror}
+use Rattle.gm_lists.proofs.Finding.{filter_agree}
+use Rattle.gm_registry.specs.declared.components_by_key.Key.TheVariants.{Mirror as OfMirror}
 
 -- ---- rows that say none
 

@@ -1,14 +1,8 @@
 -- Reads one after another, or none.
-use Rattle.std.proofs.Common.{◌≡◌, ◌∙◌, inl, inr, Result, Ok, Err, IsErrAnd, sym, subst, arith}
-use Rattle.sqlite_trees.specs.declared.store.Store.{Ghosts}
-use Rattle.sqlite.specs.Held.{Held, state}
-use Rattle.sqlite.specs.State.{State, HasCleanDisk}
-use Rattle.gm_state.specs.Rows.{Tables}
+use Rattle.gm_registry.proofs.Common.{◌≡◌, ◌∙◌, inl, inr, Result, Ok, Err, IsErrAnd, sym, subst, arith, Ghosts, Held, state, State, HasCleanDisk, Tables, DiskKept, IsOpen, HasTables, HaveRead, StoreFailed, IsOurSchema, Queries}
 use Rattle.gm_rows.specs.declared.fault.StoreFault.{StoreFault}
 use Rattle.gm_registry.specs.Reads as reads
-use Rattle.gm_registry.specs.Registry.{DiskKept, IsOpen, HasTables, IsOurs, HasRead, HaveRead, HasFailed, StoreFailed}
-use Rattle.gm_registry.specs.Reads.{IsOurSchema}
-use Rattle.gm_registry.specs.Tells.{Queries}
+use Rattle.gm_registry.specs.Registry.{IsOurs, HasRead, HasFailed}
 use Rattle.gm_registry.proofs.Failures.{failed_later}
 use Rattle.gm_registry.proofs.ReadsInTurn.{read_then, failed_then, clean_before, tables_stay}
 

@@ -1,16 +1,5 @@
 -- Calls within a transaction, one after another: how many rows they number, and why the next fails.
-use Rattle.std.proofs.Common.{◌≡◌, ◌⊎◌, ℕ, ◌+◌, ◌≤◌, List, IsSome, arith}
-use Rattle.sqlite_disk.specs.Disk.{MoreFaults}
-use Rattle.sqlite.specs.Order.{Row}
-use Rattle.sqlite.specs.Tree.{Trees}
-use Rattle.sqlite.specs.Effect.{Database}
-use Rattle.sqlite.specs.State.{State, HasCleanDisk, KeepsCommit, Survives}
-use Rattle.sqlite_rows.specs.Numbers.{TakesMore}
-use Rattle.sqlite_rows.proofs.Looping.{SoFar, nothing_yet, goes_as}
-use Rattle.gm_state.specs.Rows.{Tables}
-use Rattle.gm_rows.specs.Schema.{registry_schema}
-use Rattle.gm_rows.specs.Tables.{HasRows, IsInside}
-use Rattle.gm_registry.specs.Fitting.{HasRoom}
+use Rattle.gm_registry.proofs.Common.{◌≡◌, ◌⊎◌, ℕ, ◌+◌, ◌≤◌, List, IsSome, arith, MoreFaults, Row, Trees, Database, State, HasCleanDisk, KeepsCommit, Survives, TakesMore, SoFar, nothing_yet, goes_as, Tables, registry_schema, HasRows, IsInside, HasRoom}
 use Rattle.gm_registry.proofs.Failures.{failed_since}
 
 -- ---- room

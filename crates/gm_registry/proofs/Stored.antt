@@ -1,33 +1,9 @@
 -- Rows that obey the tables of a registry are what is shown of them.
-use Rattle.std.proofs.Common.{◌≡◌, ◌∙◌, inl, inr, ℕ, ℤ, suc, pos, ◌+◌, ◌≤◌, true, false, not, Some, [], ◌∷◌, drop, length, refl, sym, ap, subst, arith}
-use Rattle.std.proofs.lemmas.Bool.{and_parts, true≢false, ne_eqb}
-use Rattle.sqlite.specs.Order.{Row, column}
+use Rattle.gm_registry.proofs.Common.{◌≡◌, ◌∙◌, inl, inr, ℕ, ℤ, suc, pos, ◌+◌, ◌≤◌, true, false, not, Some, [], ◌∷◌, drop, length, refl, sym, ap, subst, arith, and_parts, true≢false, ne_eqb, Row, column, Table, Trees, Null, Int, Real, Text, Blob, IsSound, columns, keeps_at, are_typed, are_present, is_of, Datatype, NotNull, is_null, CommandRow, number_of, shown_places, IsBetween, registry_schema, intents, commands, patches, SeesRegistry, Database, State, Has, stands_from, columns_at, Mirrors, Intents, Patches, count_from, text_in, number_in, nine_picked}
 use Rattle.sqlite.specs.Kind.TheVariants as kind
-use Rattle.sqlite.specs.Table.{Table}
-use Rattle.sqlite.specs.Tree.{Trees}
-use Rattle.sqlite.specs.declared.types.Value.TheVariants.{Null, Int, Real, Text, Blob}
-use Rattle.sqlite_catalog.specs.Listing.{IsSound}
-use Rattle.sqlite_rows.specs.Keeps.{columns}
-use Rattle.sqlite_rules.proofs.RuleLemmas.{keeps_at}
 use Rattle.sqlite_rules.specs.Lists.{Has as Stands}
 use Rattle.sqlite_schema.specs.Names.{is_key}
-use Rattle.sqlite_schema.specs.Rules.{are_typed, are_present, is_of}
-use Rattle.sqlite_schema.specs.declared.schema.Constraint.TheVariants.{Datatype, NotNull}
-use Rattle.sqlite_sql.specs.Ops.{is_null}
 use Rattle.sqlite_value.specs.declared.value.Value.{Value}
-use Rattle.gm_state.specs.Rows.{CommandRow}
-use Rattle.gm_rows.specs.Queries.{number_of, shown_places}
-use Rattle.gm_rows.specs.Says.{IsBetween}
-use Rattle.gm_rows.specs.Schema.{registry_schema, intents, commands, patches}
-use Rattle.gm_rows.specs.Tables.{SeesRegistry}
-use Rattle.sqlite.specs.Effect.{Database}
-use Rattle.sqlite.specs.State.{State}
-use Rattle.gm_lists.specs.Ordered.{Has}
-use Rattle.gm_rows.proofs.ListMembers.{stands_from}
-use Rattle.gm_rows.specs.Values.{columns_at}
-use Rattle.gm_rows.specs.declared.fetched.Table.TheVariants.{Mirrors, Intents, Patches}
-use Rattle.gm_rows.proofs.CountedNumbers.{count_from}
-use Rattle.gm_rows.proofs.RowsSayTables.{text_in, number_in, nine_picked}
 use Rattle.gm_rows.proofs.WholeRows.{are_required, as_many, its_columns}
 use Rattle.gm_registry.proofs.Abouts.{only_null}
 

@@ -1,27 +1,12 @@
 -- What each text means.
-use Rattle.std.proofs.Common.{◌≡◌, List, [], ◌∷◌, ℕ, Ok, refl, codes, pos, Some, Bool, false, true}
-use Rattle.sqlite.specs.Table.{Table}
-use Rattle.sqlite.specs.Schema.{Schema}
+use Rattle.gm_registry.proofs.Common.{◌≡◌, List, [], ◌∷◌, ℕ, Ok, refl, codes, pos, Some, Bool, false, true, Table, Schema, Command, CreateTable, Select, Delete, Insert, InsertOr, Values, Term, lit, col, op2, Query, Null, Int, Binary, Compare, Eq, reads_listing, command_of, statement_of, is_all_of, scan, about_text, mirrors_text, components_text, intents_text, commands_text, patches_text, put_about_text, upsert_mirror_text, drop_mirror_text, upsert_component_text, drop_component_text, put_intent_text, put_command_text, put_patch_text, settle_text, drop_patches_text, drop_about_text, find_command_text, last_command_text, about, mirrors, components, intents, commands, patches, no_schema, with_about, with_mirrors, first_schema, registry_schema}
 use Rattle.sqlite.specs.Compile.{table_defined_by}
 use Rattle.sqlite.specs.Change.{created}
-use Rattle.sqlite.specs.Command.{Command}
-use Rattle.sqlite.specs.Command.TheVariants.{CreateTable, Select, Delete, Insert, InsertOr}
-use Rattle.sqlite.specs.Source.TheVariants.{Values}
-use Rattle.sqlite.specs.Term.{Term, lit, col, op2}
-use Rattle.sqlite.specs.Query.{Query}
 use Rattle.sqlite_schema.specs.declared.command.Conflict.TheVariants.{Abort}
-use Rattle.sqlite.specs.declared.types.Value.TheVariants.{Null, Int}
-use Rattle.sqlite.specs.Collation.TheVariants.{Binary}
-use Rattle.sqlite_sql.specs.declared.ops.BinaryOp.TheVariants.{Compare}
-use Rattle.sqlite_sql.specs.declared.ops.CompareOp.TheVariants.{Eq}
-use Rattle.sqlite.specs.Listing.{understood, reads_listing}
-use Rattle.sqlite.proofs.Callers.{IsPlain, command_of, statement_of}
+use Rattle.sqlite.specs.Listing.{understood}
+use Rattle.sqlite.proofs.Callers.{IsPlain}
 use Rattle.sqlite_tied.specs.Compute.{everything}
-use Rattle.sqlite_rows.proofs.Failing.{is_all_of}
-use Rattle.sqlite_rows.proofs.Finding.{scan}
-use Rattle.gm_rows.specs.Texts.{about_text, mirrors_text, components_text, intents_text, commands_text, patches_text}
-use Rattle.gm_rows.specs.Statements.{put_about_text, upsert_mirror_text, drop_mirror_text, upsert_component_text, drop_component_text, put_intent_text, put_command_text, put_patch_text, settle_text, drop_patches_text, drop_about_text, find_command_text, last_command_text}
-use Rattle.gm_rows.specs.Schema.{about, mirrors, components, intents, commands, patches, no_schema, with_about, with_mirrors, with_components, with_intents, first_schema, registry_schema}
+use Rattle.gm_rows.specs.Schema.{with_components, with_intents}
 
 -- the text makes this table over a schema that was there before
 pub record Defines (before after : Schema) (text : List ℕ) (table : Table) : Type 0 where

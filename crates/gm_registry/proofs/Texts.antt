@@ -1,51 +1,16 @@
 -- The texts that a store lists, as the query of them finds them.
-use Rattle.std.proofs.Common.{◌≡◌, ◌∙◌, ◌⊎◌, inl, inr, ⊎_elim, IsSome, IsTrue, ℕ, ◌<◌, ◌≤◌, pos, Bool, true, false, not, List, [], ◌∷◌, ◌++◌, filter, map, length, if◌then◌else◌, codes, Result, IsPermutation, refl, sym, ap, subst, arith}
-use Rattle.std.proofs.lemmas.List.Elements.{filter_agree}
-use Rattle.std.proofs.lemmas.List.Sorted.{IsPermutation-refl, IsPermutation-sym, IsPermutation-trans, IsPermutation-map, IsPermutation-cons, IsPermutation-swap, length_permutation}
-use Rattle.sqlite_trees.proofs.ListLemmas.{map-map}
-use Rattle.sqlite.specs.Order.{Row, column}
+use Rattle.gm_registry.proofs.Common.{◌≡◌, ◌∙◌, ◌⊎◌, inl, inr, ⊎_elim, IsSome, IsTrue, ℕ, ◌<◌, ◌≤◌, pos, Bool, true, false, not, List, [], ◌∷◌, ◌++◌, filter, map, length, if◌then◌else◌, codes, Result, IsPermutation, refl, sym, ap, subst, arith, filter_agree, IsPermutation-refl, IsPermutation-sym, IsPermutation-trans, IsPermutation-map, IsPermutation-cons, IsPermutation-swap, length_permutation, map-map, Row, column, value_cmp-Null, Null, Int, Real, Text, Blob, is_null, is_true, Is, Binary, Term, lit, col, op1, op2, holds, Query, IsAnswer, Schema, Trees, Select, Reads, if_select, IsSourceOf, IsPlain, State, HasCleanDisk, FailsToQuery, Survives, Error, MoreFaults, QueryOverflows, accepts_program, is_all_of, listing_fault, fault_of, Store, survives_then, survives_weaker, command_of, scan, found, overlaid, Has, Has-permutation, load_texts_text, about_text, mirrors_text, components_text, intents_text, commands_text, patches_text, columns_at, two, HasReadOver, HasFailedOver, schema_of, IsOfRegistry, listed, under_number, tables_of, AllStand, Lists, ShowsList, Edition, First, Second}
 use Rattle.sqlite_value.specs.declared.value.Value.{Value}
 use Rattle.sqlite_value.specs.Order.{value_cmp}
-use Rattle.sqlite_value.proofs.OrderLemmas.{value_cmp-Null}
-use Rattle.sqlite.specs.declared.types.Value.TheVariants.{Null, Int, Real, Text, Blob}
-use Rattle.sqlite_sql.specs.Ops.{is_null, is_true, unary, binary}
+use Rattle.sqlite_sql.specs.Ops.{unary, binary}
 use Rattle.sqlite_sql.specs.declared.ops.UnaryOp.TheVariants.{Not}
-use Rattle.sqlite_sql.specs.declared.ops.BinaryOp.TheVariants.{Is}
-use Rattle.sqlite.specs.Collation.TheVariants.{Binary}
-use Rattle.sqlite.specs.Term.{Term, lit, col, op1, op2, holds}
-use Rattle.sqlite.specs.Query.{Query, IsAnswer}
-use Rattle.sqlite.specs.Schema.{Schema}
-use Rattle.sqlite.specs.Tree.{Trees}
-use Rattle.sqlite.specs.Command.TheVariants.{Select}
-use Rattle.sqlite.specs.Effect.{Reads}
 use Rattle.sqlite_resolve.specs.declared.compiled.Compiled.{Compiled}
 use Rattle.sqlite_resolve.specs.declared.error.CompileError.{CompileError}
 use Rattle.sqlite_resolve.specs.Compile.{compiled}
-use Rattle.sqlite.specs.Listing.{understood, listing_schema, if_select, IsSourceOf}
-use Rattle.sqlite.specs.Given.{IsPlain}
-use Rattle.sqlite.specs.State.{State, HasCleanDisk, Shown, FailsToQuery, Survives}
-use Rattle.sqlite.specs.declared.error.Error.{Error}
-use Rattle.sqlite_disk.specs.Disk.{MoreFaults}
-use Rattle.sqlite_sql.specs.Program.{QueryOverflows}
-use Rattle.sqlite_typing.specs.Types.{accepts_program}
-use Rattle.sqlite_rows.proofs.Failing.{is_all_of, listing_fault}
-use Rattle.gm_rows.specs.Faults.{fault_of}
-use Rattle.gm_rows.specs.declared.fault.StoreFault.TheVariants.{Store}
+use Rattle.sqlite.specs.Listing.{understood, listing_schema}
+use Rattle.sqlite.specs.State.{Shown}
 use Rattle.gm_registry.proofs.Failures.{never, told}
-use Rattle.sqlite.proofs.StateLemmas.{survives_then, survives_weaker}
-use Rattle.sqlite.proofs.Callers.{command_of}
 use Rattle.sqlite_tied.specs.Compute.{everything}
-use Rattle.sqlite_rows.proofs.Finding.{scan, found, overlaid}
-use Rattle.gm_lists.specs.Ordered.{Has}
-use Rattle.gm_lists.proofs.Sorting.{Has-permutation}
-use Rattle.gm_rows.specs.Statements.{load_texts_text}
-use Rattle.gm_rows.specs.Texts.{about_text, mirrors_text, components_text, intents_text, commands_text, patches_text}
-use Rattle.gm_rows.specs.Values.{columns_at, two}
-use Rattle.sqlite_rows.specs.Reads.{HasReadOver, HasFailedOver}
-use Rattle.gm_registry.specs.Opening.{schema_of, IsOfRegistry}
-use Rattle.gm_registry.specs.Listing.{listed, under_number, tables_of, AllStand, Lists, ShowsList}
-use Rattle.gm_registry.specs.declared.edition.Edition.{Edition}
-use Rattle.gm_registry.specs.declared.edition.Edition.TheVariants.{First, Second}
 
 -- ---- the query
 

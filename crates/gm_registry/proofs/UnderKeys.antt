@@ -1,34 +1,9 @@
 -- What the queries of components under a key mean, and why they fail.
-use Rattle.std.proofs.Common.{◌≡◌, ◌⊎◌, inl, inr, ℕ, true, List, [], ◌∷◌, map, refl, sym, subst, codes, IsTrue, IsSome}
-use Rattle.sqlite_disk.specs.Disk.{MoreFaults}
-use Rattle.sqlite.specs.Order.{Row}
-use Rattle.sqlite.specs.Schema.{Schema}
-use Rattle.sqlite.specs.Tree.{Trees}
-use Rattle.sqlite.specs.Collation.TheVariants.{Binary}
-use Rattle.sqlite.specs.declared.types.Value.TheVariants.{Null, Text}
-use Rattle.sqlite.specs.declared.error.Error.{Error}
-use Rattle.sqlite.specs.Term.{Term, col, op2}
-use Rattle.sqlite.specs.Query.{Query, IsAnswer}
+use Rattle.gm_registry.proofs.Common.{◌≡◌, ◌⊎◌, inl, inr, ℕ, true, List, [], ◌∷◌, map, refl, sym, subst, codes, IsTrue, IsSome, MoreFaults, Row, Schema, Trees, Binary, Null, Text, Error, Term, col, op2, Query, IsAnswer, State, HasCleanDisk, Shown, FailsToQuery, Survives, CommitsShowing, reads_as, Compare, Eq, QueryOverflows, accepts_program, is_all_of, read_fault, scan, found, overlaid, read_by, failed_by, fault_of, key_text, key_column, AreUnder, shown_places, IsOurSchema, IsOurs, HasRead, HasFailed, registry_schema, Store, Components, Key, Provider}
 use Rattle.sqlite.specs.Listing.{understood}
-use Rattle.sqlite.specs.State.{State, HasCleanDisk, Shown, FailsToQuery, Survives, CommitsShowing}
-use Rattle.sqlite.proofs.Callers.{reads_as, IsPlain}
-use Rattle.sqlite_sql.specs.declared.ops.BinaryOp.TheVariants.{Compare}
-use Rattle.sqlite_sql.specs.declared.ops.CompareOp.TheVariants.{Eq}
-use Rattle.sqlite_sql.specs.Program.{QueryOverflows}
+use Rattle.sqlite.proofs.Callers.{IsPlain}
 use Rattle.sqlite_tied.specs.Compute.{everything}
-use Rattle.sqlite_typing.specs.Types.{accepts_program}
-use Rattle.sqlite_rows.proofs.Failing.{is_all_of, read_fault}
-use Rattle.sqlite_rows.proofs.Finding.{scan, found, overlaid}
-use Rattle.sqlite_rows.proofs.Reading.{read_by, failed_by}
-use Rattle.gm_rows.specs.Faults.{fault_of}
-use Rattle.gm_registry.specs.Keys.{key_text, key_column, AreUnder}
-use Rattle.gm_rows.specs.Queries.{shown_places}
-use Rattle.gm_registry.specs.Reads.{IsOurSchema, IsOurs, HasRead, HasFailed}
-use Rattle.gm_rows.specs.Schema.{registry_schema}
-use Rattle.gm_rows.specs.declared.fault.StoreFault.TheVariants.{Store}
-use Rattle.gm_rows.specs.declared.fetched.Table.TheVariants.{Components}
-use Rattle.gm_registry.specs.declared.components_by_key.Key.{Key}
-use Rattle.gm_registry.specs.declared.components_by_key.Key.TheVariants.{Provider, Mirror}
+use Rattle.gm_registry.specs.declared.components_by_key.Key.TheVariants.{Mirror}
 use Rattle.gm_registry.proofs.Failures.{never, told}
 use Rattle.gm_registry.proofs.TextMeanings.{Asks}
 

@@ -1,30 +1,9 @@
 -- What the queries of whole tables mean.
-use Rattle.std.proofs.Common.{◌≡◌, ℕ, List, [], ◌∷◌, map, refl, sym, subst, codes, false, IsPermutation}
-use Rattle.sqlite.specs.Order.{Row}
-use Rattle.sqlite.specs.Schema.{Schema}
-use Rattle.sqlite.specs.Collation.TheVariants.{Binary}
-use Rattle.sqlite.specs.declared.types.Value.TheVariants.{Null}
-use Rattle.sqlite.specs.declared.error.Error.{Error}
+use Rattle.gm_registry.proofs.Common.{◌≡◌, ℕ, List, [], ◌∷◌, map, refl, sym, subst, codes, false, IsPermutation, Row, Schema, Binary, Null, Error, Term, col, eval_all, Query, IsAnswer, IsPlain, State, HasCleanDisk, Shown, FailsToQuery, Survives, CommitsShowing, reads_as, scan, found_all, overlaid, read_by, failed_by, registry_schema, columns_at, query_text, tree_of, shown_places, HasReadOver, HasFailedOver, schema_of, IsOfRegistry, IsOurSchema, Edition, First, Second, About, Mirrors, Components, Intents, Patches}
 use Rattle.sqlite_value.specs.declared.keys.Key.{Key}
-use Rattle.sqlite.specs.Term.{Term, col, eval_all}
-use Rattle.sqlite.specs.Query.{Query, IsAnswer}
 use Rattle.sqlite.specs.Listing.{understood}
-use Rattle.sqlite.specs.Given.{IsPlain}
-use Rattle.sqlite.specs.State.{State, HasCleanDisk, Shown, FailsToQuery, Survives, CommitsShowing}
-use Rattle.sqlite.proofs.Callers.{reads_as}
 use Rattle.sqlite_tied.specs.Compute.{everything}
-use Rattle.sqlite_rows.proofs.Finding.{scan, found_all, overlaid}
-use Rattle.sqlite_rows.proofs.Reading.{read_by, failed_by}
-use Rattle.gm_rows.specs.Schema.{registry_schema}
-use Rattle.gm_rows.specs.Values.{columns_at}
-use Rattle.gm_rows.specs.Queries.{query_text, tree_of, shown_places}
-use Rattle.sqlite_rows.specs.Reads.{HasReadOver, HasFailedOver}
-use Rattle.gm_registry.specs.Opening.{schema_of, IsOfRegistry}
-use Rattle.gm_registry.specs.Reads.{IsOurSchema}
-use Rattle.gm_registry.specs.declared.edition.Edition.{Edition}
-use Rattle.gm_registry.specs.declared.edition.Edition.TheVariants.{First, Second}
 use Rattle.gm_rows.specs.declared.fetched.Table.{Table}
-use Rattle.gm_rows.specs.declared.fetched.Table.TheVariants.{About, Mirrors, Components, Intents, Patches}
 use Rattle.gm_registry.proofs.TextMeanings.{Asks, AsksOver}
 
 -- by its number

@@ -1,22 +1,8 @@
 -- The tables with a change hold the rows of the records with it.
-use Rattle.std.proofs.Common.{◌≡◌, ◌∙◌, inl, inr, ℕ, ◌+◌, true, false, not, List, [], ◌∷◌, ◌++◌, map, filter, length, Option, Some, None, refl, sym, ap, subst, arith}
+use Rattle.gm_registry.proofs.Common.{◌≡◌, ◌∙◌, inl, inr, ℕ, ◌+◌, true, false, not, List, [], ◌∷◌, ◌++◌, map, filter, length, Option, Some, None, refl, sym, ap, subst, arith, cases_Bool, IsPermutation-refl, IsPermutation-trans, IsPermutation-cons, IsPermutation-map, IsPermutation-swap, filter-map, IsPermutation-filter, Mirror, Component, Has, Ascends, label_lt, put, put_all, without, without_all, Records, IsState, name, provider, Tables, MirrorRow, ComponentRow, mirror_row, component_row, intent_rows, patch_rows, same_is, same_from, lt_differ, lt_trans, Ascends-put, filter_id, Ascends-filter, Changed, put_some, without_some, changed_by, HoldState, without_gone, mirror_key, component_key, without_component, with_component, without_some_mirror, with_some_mirror, without_components, with_components, with_intents, with_bytes, with_records, with_command, command_row, with_change, with_accepted}
 use Rattle.std.specs.List.Sorted.{IsPermutation}
 use Rattle.std.specs.Str.{bytes_eq}
-use Rattle.std.proofs.lemmas.Bool.{cases_Bool}
-use Rattle.std.proofs.lemmas.List.Sorted.{IsPermutation-refl, IsPermutation-trans, IsPermutation-cons, IsPermutation-map, IsPermutation-swap}
-use Rattle.sqlite_trees.proofs.ListLemmas.{filter-map, IsPermutation-filter}
-use Rattle.gm_state.specs.declared.records.Mirror.{Mirror}
-use Rattle.gm_state.specs.declared.records.Component.{Component}
-use Rattle.gm_lists.specs.Ordered.{Has, Ascends, label_lt, put, put_all, without, without_all}
-use Rattle.gm_state.specs.Records.{Records, IsState, name, provider}
-use Rattle.gm_state.specs.Rows.{Tables, MirrorRow, ComponentRow, mirror_row, component_row, intent_rows, patch_rows}
-use Rattle.gm_lists.proofs.Order.{same_is, same_from, differ, lt_differ, lt_trans}
-use Rattle.gm_lists.proofs.Putting.{Ascends-put, filter_id}
-use Rattle.gm_lists.proofs.Lists.{Ascends-filter}
-use Rattle.gm_changes.specs.Decides.{Changed, put_some, without_some, changed_by}
-use Rattle.gm_rows.specs.ReadableTables.{HoldState}
-use Rattle.gm_registry.specs.FittingChanges.{without_gone}
-use Rattle.gm_registry.specs.Changes.{mirror_key, component_key, without_component, with_component, without_some_mirror, with_some_mirror, without_components, with_components, with_intents, with_bytes, with_records, with_command, command_row, with_change, with_accepted}
+use Rattle.gm_lists.proofs.Order.{differ}
 
 -- ---- lists of records and of their rows
 

@@ -1,13 +1,8 @@
 -- Names with a suffix after them.
-use Rattle.std.proofs.Common.{◌≡◌, ◌≢◌, ◌∙◌, ℕ, Bool, false, ◌||◌, List, [], ◌∷◌, ◌++◌, map, refl, sym, ap, ap₂}
-use Rattle.std.specs.List.{list_any}
-use Rattle.std.specs.Str.{bytes_eq}
+use Rattle.gm_registry_files.proofs.Common.{◌≡◌, ◌≢◌, ◌∙◌, ℕ, Bool, false, ◌||◌, List, [], ◌∷◌, ◌++◌, map, refl, sym, ap, ap₂, list_any, bytes_eq, same_from_decides, bytes_eq-Decides, is_with}
 use Rattle.std.proofs.lemmas.Bool.{false_from_ne_true}
-use Rattle.std.proofs.lemmas.Bool.Decides.{same_from_decides}
 use Rattle.std.proofs.lemmas.List.{append_cancel_right}
 use Rattle.std.proofs.lemmas.List.Folds.{list_any-append}
-use Rattle.std.proofs.lemmas.Slice.Eq.{bytes_eq-Decides}
-use Rattle.gm_registry_files.specs.Beside.{is_with}
 
 -- two are one just if they are with it
 same_with : (a b suffix : List ℕ) → bytes_eq a b ≡ bytes_eq (b ++ suffix) (a ++ suffix)

@@ -1,11 +1,6 @@
 -- Bytes are cut into sectors, which are joined to them again.
-use Rattle.std.proofs.Common.{◌≡◌, ◌∙◌, inl, inr, ℕ, zero, suc, ◌+◌, ◌*◌, ◌/◌, ◌%◌, ◌≤◌, List, [], ◌∷◌, ◌++◌, length, take, drop, refl, sym, ap, arith, length-append, length-drop, append-nil}
-use Rattle.std.proofs.lemmas.List.{take-append-drop, length-take-le, drop-drop, append_assoc}
+use Rattle.gm_rows.proofs.Common.{◌≡◌, ◌∙◌, inl, inr, ℕ, zero, suc, ◌+◌, ◌*◌, ◌/◌, ◌%◌, ◌≤◌, List, [], ◌∷◌, ◌++◌, length, take, drop, refl, sym, ap, arith, length-append, length-drop, append-nil, take-append-drop, length-take-le, drop-drop, append_assoc, mul-mod_right, mod-add-div', first_chunks, AreSectors, joined}
 use Rattle.std.proofs.lemmas.List.Concat.{flat_map-cons}
-use Rattle.std.proofs.Math.Nat.{mul-mod_right, mod-add-div'}
-use Rattle.std.specs.Simd.{first_chunks}
-use Rattle.gm_state.specs.Readable.{AreSectors}
-use Rattle.gm_state.specs.Rows.{joined}
 
 -- each piece is a sector
 pub pieces_whole : (k : ℕ) (xs : List ℕ) → k * 512 ≤ length xs → AreSectors (first_chunks 512 k xs)

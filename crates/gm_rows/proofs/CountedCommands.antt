@@ -1,24 +1,5 @@
 -- Commands are counted by how many there are, and by the least and the greatest of their numbers.
-use Rattle.std.proofs.Common.{◌≡◌, ◌∙◌, inl, inr, ℕ, ℤ, pos, negsuc, ◌≤◌, ◌<◌, Bool, true, false, ltb, List, [], ◌∷◌, map, min, length, refl, sym, ap, subst, arith}
-use Rattle.std.specs.Ordering.{is_lt, int_cmp}
-use Rattle.std.proofs.Math.Nat.{min-eq_left, min-eq_right}
-use Rattle.std.proofs.lemmas.Bool.{cases_Bool, cases_lt, ltb-false, true≢false}
-use Rattle.std.proofs.lemmas.List.{length-map}
-use Rattle.std.proofs.lemmas.List.Sorted.{IsPermutation-sym, length_permutation}
-use Rattle.sqlite.specs.Order.{Row, column}
-use Rattle.sqlite.specs.Tree.{Trees}
-use Rattle.sqlite_value.proofs.OrderLemmas.{value_cmp-Int}
-use Rattle.sqlite_value.specs.declared.value.Value.{Value}
-use Rattle.sqlite.specs.declared.types.Value.TheVariants.{Int}
-use Rattle.sqlite_rows.specs.Keeps.{columns}
-use Rattle.gm_lists.specs.Ordered.{Has}
-use Rattle.gm_lists.proofs.Sorting.{Has-permutation}
-use Rattle.gm_state.specs.Rows.{Tables, CommandRow}
-use Rattle.gm_rows.specs.Queries.{number_of, is_less, is_greater, IsFirstBy, AreNumbersShown}
-use Rattle.gm_rows.specs.Rows.{command_values}
-use Rattle.gm_rows.specs.Says.{IsBetween, IsNumber, IsWithin, AreCounted}
-use Rattle.gm_rows.specs.Tables.{HasRows, HasCounted, numbers_of}
-use Rattle.gm_rows.specs.declared.command_numbers.CommandNumbers.{CommandNumbers}
+use Rattle.gm_rows.proofs.Common.{◌≡◌, ◌∙◌, inl, inr, ℕ, ℤ, pos, negsuc, ◌≤◌, ◌<◌, Bool, true, false, ltb, List, [], ◌∷◌, map, min, length, refl, sym, ap, subst, arith, is_lt, int_cmp, min-eq_left, min-eq_right, cases_Bool, cases_lt, ltb-false, true≢false, length-map, IsPermutation-sym, length_permutation, Row, column, Trees, value_cmp-Int, Value, Int, columns, Has, Has-permutation, Tables, CommandRow, number_of, is_less, is_greater, IsFirstBy, AreNumbersShown, command_values, IsBetween, IsNumber, IsWithin, AreCounted, HasRows, HasCounted, numbers_of, CommandNumbers}
 use Rattle.gm_rows.proofs.CountedNumbers.{counted_up_to}
 
 -- ---- numbers as values

@@ -1,8 +1,6 @@
 -- Flags are small numbers.
-use Rattle.std.proofs.Common.{◌≤◌, ℕ, Bool, true, false, if◌then◌else◌, arith}
-use Rattle.gm_metadata.specs.declared.flags.MirrorFlags.{MirrorFlags}
+use Rattle.gm_rows.proofs.Common.{◌≤◌, ℕ, Bool, true, false, if◌then◌else◌, arith, MirrorFlags, mirror_bits, disk_bits}
 use Rattle.gm_metadata.specs.declared.flags.DiskFlags.{DiskFlags}
-use Rattle.gm_metadata.specs.Flags.{mirror_bits, disk_bits}
 
 bit_low : (b : Bool) (n : ℕ) → (if b then n else 0) ≤ n
 bit_low true n = omega arith

@@ -1,8 +1,6 @@
 -- What is found of labels one after another.
-use Rattle.std.proofs.Common.{◌≡◌, ◌∙◌, ℕ, suc, ◌+◌, ◌<◌, List, [], ◌∷◌, ◌++◌, take, length, get_or, flat_map, IsPermutation, sym, ap, subst, arith}
-use Rattle.std.proofs.Math.Seq.{take-suc}
-use Rattle.std.proofs.lemmas.List.{flat_map_more}
-use Rattle.std.proofs.lemmas.List.Sorted.{IsPermutation-append}
+use Rattle.gm_rows.proofs.Common.{◌≡◌, ◌∙◌, ℕ, suc, ◌+◌, ◌<◌, List, [], ◌∷◌, ◌++◌, take, length, get_or, flat_map, sym, ap, subst, arith, take-suc, flat_map_more, IsPermutation-append}
+use Rattle.std.proofs.Common.{IsPermutation}
 
 -- one label more
 pub one_more : {X A : Type 0} (f : X → List A) (all : List X) (i : ℕ) (x : X) (found more : List A)

@@ -1,4 +1,5 @@
 pub mod BlobSectors
+pub mod Common
 pub mod CountedCommands
 pub mod CountedNumbers
 pub mod FlagNumbers

@@ -1,9 +1,8 @@
 -- Members of lists, in the words of the rows and in those of the records.
-use Rattle.std.proofs.Common.{inl, inr, List, [], ◌∷◌, IsPermutation, sym}
-use Rattle.std.proofs.lemmas.List.Sorted.{Contains-permutation}
+use Rattle.gm_rows.proofs.Common.{inl, inr, List, [], ◌∷◌, sym, Contains-permutation, Has}
+use Rattle.std.proofs.Common.{IsPermutation}
 use Rattle.sqlite_rules.specs.Lists.{Has as Stands}
 use Rattle.sqlite_rules.proofs.ListLemmas.{has_contained, contains_had}
-use Rattle.gm_lists.specs.Ordered.{Has}
 
 pub has_from : {X : Type 0} (xs : List X) (x : X) → Stands xs x → Has xs x
 has_from [] x h = absurd h

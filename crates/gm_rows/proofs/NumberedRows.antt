@@ -1,10 +1,5 @@
 -- Rows that are those of records, numbered in their order.
-use Rattle.std.proofs.Common.{◌≡◌, ◌∙◌, sym, ap, ℕ, zero, suc, ◌+◌, ◌<◌, length, get_or, take, arith, List, [], ◌∷◌, ◌++◌, map, All}
-use Rattle.std.proofs.Math.Seq.{take-suc}
-use Rattle.std.proofs.lemmas.List.{map-append}
-use Rattle.std.proofs.lemmas.List.Elements.{All-head, All-tail}
-use Rattle.sqlite.specs.Order.{Row}
-use Rattle.gm_rows.specs.Values.{numbered}
+use Rattle.gm_rows.proofs.Common.{◌≡◌, ◌∙◌, sym, ap, ℕ, zero, suc, ◌+◌, ◌<◌, length, get_or, take, arith, List, [], ◌∷◌, ◌++◌, map, All, take-suc, map-append, All-head, All-tail, Row, numbered}
 
 module _ {A : Type 0} (row_of : ℕ → A → Row) (part : Row → Row) where
   numbered-append : (n : ℕ) (xs : List A) (x : A)

@@ -1,14 +1,5 @@
 -- Lists of values in another order are those of records in another order.
-use Rattle.std.proofs.Common.{◌≡◌, ◌∙◌, inl, inr, ℕ, ◌+◌, ◌<◌, List, [], ◌∷◌, map, length, get_or, set, refl, sym, ap, subst, arith, All}
-use Rattle.std.specs.List.{swap}
-use Rattle.std.proofs.lemmas.List.{length-map, map-set, get_or-map}
-use Rattle.std.specs.List.{AllByRecursion}
-use Rattle.std.specs.List.Sorted.{IsPermutation}
-use Rattle.std.proofs.lemmas.List.Sorted.{IsPermutation-refl, IsPermutation-trans, IsPermutation-swap, IsPermutation-keeps, All-permutation}
-use Rattle.std.proofs.lemmas.List.Elements.{All-from_recursion}
-use Rattle.sqlite.specs.Order.{Row}
-use Rattle.gm_lists.specs.Ordered.{Has}
-use Rattle.gm_rows.specs.Values.{numbered}
+use Rattle.gm_rows.proofs.Common.{◌≡◌, ◌∙◌, inl, inr, ℕ, ◌+◌, ◌<◌, List, [], ◌∷◌, map, length, get_or, set, refl, sym, ap, subst, arith, All, swap, length-map, map-set, get_or-map, AllByRecursion, IsPermutation, IsPermutation-refl, IsPermutation-trans, IsPermutation-swap, IsPermutation-keeps, All-permutation, All-from_recursion, Row, Has, numbered}
 
 module _ {A B : Type 0} (f : A → B) where
   map-swap : (xs : List A) (i j : ℕ) → i < length xs → j < length xs

@@ -1,20 +1,5 @@
 -- When rows say records, and when they say none.
-use Rattle.std.proofs.Common.{◌≡◌, ◌∙◌, ℕ, ◌+◌, List, [], ◌∷◌, map, refl, sym, ap, subst, All, Result, Ok, Err, IfErr, IsErrAnd}
-use Rattle.std.specs.List.Sorted.{IsPermutation}
-use Rattle.std.proofs.lemmas.List.Sorted.{IsPermutation-map, IsPermutation-sym}
-use Rattle.sqlite.specs.Order.{Row, column}
-use Rattle.sqlite_value.specs.declared.value.Value.{Value}
-use Rattle.sqlite.specs.declared.types.Value.TheVariants.{Blob}
-use Rattle.gm_state.specs.declared.intents.Intent.{Intent}
-use Rattle.gm_state.specs.declared.intents.Intent.TheVariants.{Meta, Clear, Copy, Dirty, Patch}
-use Rattle.gm_state.specs.declared.records.Mirror.{Mirror}
-use Rattle.gm_state.specs.declared.records.Component.{Component}
-use Rattle.gm_lists.specs.Ordered.{Has}
-use Rattle.gm_state.proofs.SameRows.{same_joined}
-use Rattle.gm_state.specs.Readable.{AreSectors}
-use Rattle.gm_state.specs.Rows.{mirror_row, component_row, joined, patch_rows}
-use Rattle.gm_rows.specs.Values.{columns_at, numbered, nine, shown_patch}
-use Rattle.gm_rows.specs.Says.{mirror_shown, component_shown, intent_shown}
+use Rattle.gm_rows.proofs.Common.{◌≡◌, ◌∙◌, ℕ, ◌+◌, List, [], ◌∷◌, map, refl, sym, ap, subst, All, Result, Ok, Err, IfErr, IsErrAnd, IsPermutation, IsPermutation-map, IsPermutation-sym, Row, column, Value, Blob, Intent, Meta, Clear, Copy, Dirty, Patch, Mirror, Component, Has, same_joined, AreSectors, mirror_row, component_row, joined, patch_rows, columns_at, numbered, nine, shown_patch, mirror_shown, component_shown, intent_shown}
 use Rattle.gm_rows.proofs.ReorderedValues.{unmapped, same_records, all_moved, numbered_map}
 
 -- one mirror has a row, and one component

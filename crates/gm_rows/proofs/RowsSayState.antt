@@ -1,18 +1,5 @@
 -- The rows that are shown of mirrors and components say what these two tables hold.
-use Rattle.std.proofs.Common.{◌≡◌, List, map, refl}
-use Rattle.std.specs.List.Sorted.{IsPermutation}
-use Rattle.std.proofs.lemmas.List.Sorted.{IsPermutation-sym, IsPermutation-trans}
-use Rattle.sqlite.specs.Order.{Row}
-use Rattle.sqlite.specs.Tree.{Trees}
-use Rattle.gm_state.specs.Records.{Records}
-use Rattle.gm_state.specs.Rows.{Tables, mirror_row, component_row}
-use Rattle.gm_rows.specs.Rows.{mirror_values, component_values}
-use Rattle.gm_rows.specs.Tables.{HasRows}
-use Rattle.gm_rows.specs.ReadableTables.{AreRecordsOf}
-use Rattle.gm_rows.specs.Values.{columns_at, nine}
-use Rattle.gm_rows.specs.Queries.{IsShown, shown_places}
-use Rattle.gm_rows.specs.Says.{SayState, RecordsSay}
-use Rattle.gm_rows.specs.declared.fetched.Table.TheVariants.{Mirrors, Components}
+use Rattle.gm_rows.proofs.Common.{◌≡◌, List, map, refl, IsPermutation, IsPermutation-sym, IsPermutation-trans, Row, Trees, Records, Tables, mirror_row, component_row, mirror_values, component_values, HasRows, AreRecordsOf, columns_at, nine, IsShown, shown_places, SayState, RecordsSay, Mirrors, Components}
 use Rattle.gm_rows.proofs.RowsSayTables.{again_shown, mirrors_shown, components_shown, said}
 
 again : (row : Row) → columns_at nine (columns_at (shown_places Mirrors) row)

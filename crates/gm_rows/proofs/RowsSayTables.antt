@@ -1,27 +1,7 @@
 -- The rows that are shown of a registry's tables say what the tables hold.
-use Rattle.std.proofs.Common.{◌≡◌, ◌∙◌, ℕ, ℤ, pos, ◌+◌, List, [], ◌∷◌, map, refl, sym, ap, subst, subst₂, arith}
-use Rattle.std.specs.List.Sorted.{IsPermutation}
-use Rattle.std.proofs.lemmas.List.Sorted.{IsPermutation-map, IsPermutation-sym, IsPermutation-trans, length_permutation}
-use Rattle.sqlite.specs.Order.{Row, column}
-use Rattle.sqlite.specs.Tree.{Trees}
-use Rattle.sqlite_value.specs.declared.value.Value.{Value}
-use Rattle.sqlite.specs.declared.types.Value.TheVariants.{Int, Text}
+use Rattle.gm_rows.proofs.Common.{◌≡◌, ◌∙◌, ℕ, ℤ, pos, ◌+◌, List, [], ◌∷◌, map, refl, sym, ap, subst, subst₂, arith, IsPermutation, IsPermutation-map, IsPermutation-sym, IsPermutation-trans, length_permutation, Row, column, Trees, Value, Int, Text, Keeps, columns, whole, Intent, Meta, Clear, Copy, Dirty, Patch, Has, Records, Tables, MirrorRow, ComponentRow, IntentRow, mirror_row, component_row, intent_rows, joined, patch_rows, mirror_values, component_values, intent_values, patch_values, HasRows, HasCounted, AreTablesOf, columns_at, numbered, two, six, nine, shown_intent, shown_patch, AreShown, IsShown, number_of, shown_places, intent_shown, shown_about, IsAbout, ArePatches, Say, TablesSay, Fetched, About, Mirrors, Components, Intents, Patches}
 use Rattle.sqlite.proofs.Callers.{one_permutation}
 use Rattle.sqlite_trees.proofs.ListLemmas.{map-map}
-use Rattle.sqlite_rows.specs.Keeps.{Keeps, columns, whole}
-use Rattle.gm_state.specs.declared.intents.Intent.{Intent}
-use Rattle.gm_state.specs.declared.intents.Intent.TheVariants.{Meta, Clear, Copy, Dirty, Patch}
-use Rattle.gm_lists.specs.Ordered.{Has}
-use Rattle.gm_state.specs.Records.{Records}
-use Rattle.gm_state.specs.Rows.{Tables, MirrorRow, ComponentRow, IntentRow, mirror_row, component_row, intent_rows, joined, patch_rows}
-use Rattle.gm_rows.specs.Rows.{mirror_values, component_values, intent_values, patch_values}
-use Rattle.gm_rows.specs.Tables.{HasRows, HasCounted}
-use Rattle.gm_rows.specs.ReadableTables.{AreTablesOf}
-use Rattle.gm_rows.specs.Values.{columns_at, numbered, two, six, nine, shown_intent, shown_patch}
-use Rattle.gm_rows.specs.Queries.{AreShown, IsShown, number_of, shown_places}
-use Rattle.gm_rows.specs.Says.{intent_shown, shown_about, IsAbout, ArePatches, Say, TablesSay}
-use Rattle.gm_rows.specs.declared.fetched.Fetched.{Fetched}
-use Rattle.gm_rows.specs.declared.fetched.Table.TheVariants.{About, Mirrors, Components, Intents, Patches}
 use Rattle.gm_rows.proofs.ReorderedValues.{same_records}
 use Rattle.gm_rows.proofs.RowsSayRecords.{blob_in}
 use Rattle.gm_rows.proofs.ShownInOrder.{one_order}

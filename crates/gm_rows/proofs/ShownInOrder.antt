@@ -1,28 +1,13 @@
 -- Rows that are shown by their numbers stand in that order.
-use Rattle.std.proofs.Common.{◌≡◌, ◌∙◌, ℕ, pos, ◌+◌, ◌<◌, true, false, Bool, cond, ltb, eqb, List, [], ◌∷◌, map, flat_map, length, get_or, All, IsPermutation, refl, sym, ap, subst, subst₂, arith, inl, inr}
-use Rattle.std.specs.Ordering.{is_lt, int_cmp, nat_cmp, ordering_then}
+use Rattle.gm_rows.proofs.Common.{◌≡◌, ◌∙◌, ℕ, pos, ◌+◌, ◌<◌, true, false, Bool, cond, ltb, eqb, List, [], ◌∷◌, map, flat_map, length, get_or, All, refl, sym, ap, subst, subst₂, arith, inl, inr, is_lt, int_cmp, nat_cmp, ordering_then, IsSortedByKey, ltb-false, cases_Bool, true≢false, length-map, get_or-map, All-permutation, IsPermutation-sym, All-from_recursion, AllByRecursion, Row, column, Value, value_cmp-Int, then-Equal, Null, Int, Trees, Ascends, Has, label_lt, sorted_is, numbered, IsInOrder}
+use Rattle.std.proofs.Common.{IsPermutation}
 use Rattle.std.specs.declared.cmp.Ordering.TheVariants.{Equal, Greater}
 use Rattle.std.specs.Cmp.Lexicographic.{slice_cmp}
-use Rattle.std.specs.List.Sorted.{IsSortedByKey}
-use Rattle.std.proofs.lemmas.Bool.{ltb-false, cases_Bool, true≢false}
-use Rattle.std.proofs.lemmas.List.{length-map, get_or-map}
-use Rattle.std.proofs.lemmas.List.Sorted.{All-permutation, IsPermutation-sym}
-use Rattle.std.proofs.lemmas.List.Elements.{All-from_recursion}
-use Rattle.std.specs.List.{AllByRecursion}
-use Rattle.sqlite.specs.Order.{Row, column}
 use Rattle.sqlite_value.specs.Order.{value_cmp}
-use Rattle.sqlite_value.specs.declared.value.Value.{Value}
-use Rattle.sqlite_value.proofs.OrderLemmas.{value_cmp-Int, then-Equal}
-use Rattle.sqlite.specs.declared.types.Value.TheVariants.{Null, Int}
-use Rattle.sqlite.specs.Tree.{Trees}
 use Rattle.sqlite.specs.Collation.TheVariants.{Binary}
 use Rattle.sqlite.specs.Term.{col, eval_all}
 use Rattle.sqlite_rows.proofs.Finding.{scan}
 use Rattle.sqlite.specs.Query.{Query, IsAnswer, Output, output, output_cmp, matches_as, end}
-use Rattle.gm_lists.specs.Ordered.{Ascends, Has, label_lt}
-use Rattle.gm_lists.proofs.Sorting.{sorted_is}
-use Rattle.gm_rows.specs.Values.{numbered}
-use Rattle.gm_rows.specs.Queries.{IsInOrder}
 
 -- it is sorted by the first column that it shows
 abbrev SortsByFirst : Output → Type 0

@@ -1,21 +1,9 @@
 -- The records of a state, and the intents that are readable for it, are values of the code.
-use Rattle.std.proofs.Common.{◌≡◌, ◌≢◌, ℕ, ◌<◌, ◌^◌, IsTrue, List, Option, Some, None, refl, sym, subst, arith}
+use Rattle.gm_rows.proofs.Common.{◌≡◌, ◌≢◌, ℕ, ◌<◌, ◌^◌, IsTrue, List, Option, Some, None, refl, sym, subst, arith, same_label, is_label, Intent, Meta, Clear, Copy, Dirty, Patch, Mirror, Component, Has, Records, IsState, members, component_of, IsOf, IsReadable, IsMirrorValue, IsComponentValue, IsIntentValue}
 use Rattle.std.specs.Prelude.{IsSomeAnd}
-use Rattle.gm_metadata.specs.Images.{same_label}
-use Rattle.gm_metadata.specs.Labels.{is_label}
-use Rattle.gm_state.specs.declared.intents.Intent.{Intent}
-use Rattle.gm_state.specs.declared.intents.Intent.TheVariants.{Meta, Clear, Copy, Dirty, Patch}
-use Rattle.gm_state.specs.declared.records.Mirror.{Mirror}
-use Rattle.gm_state.specs.declared.records.Component.{Component}
 use Rattle.gm_state.specs.declared.records.Disk.TheVariants.{InSync}
-use Rattle.gm_lists.specs.Ordered.{Has}
-use Rattle.gm_state.specs.Records.{Records, IsState, members}
-use Rattle.gm_state.specs.Lookups.{component_of}
-use Rattle.gm_state.specs.Intents.{IsOf}
 use Rattle.gm_lists.proofs.Order.{same_from}
 use Rattle.gm_lists.proofs.Lists.{filter-Has}
-use Rattle.gm_state.specs.Readable.{IsReadable}
-use Rattle.gm_rows.specs.Values.{IsMirrorValue, IsComponentValue, IsIntentValue}
 use Rattle.gm_state.proofs.CopyFound.{component_named, member_is}
 
 module _ (s : Records) (state : IsState s) where

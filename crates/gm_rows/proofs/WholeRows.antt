@@ -1,15 +1,9 @@
 -- A row that obeys its table has one value for each column.
-use Rattle.std.proofs.Common.{◌≡◌, ◌∙◌, ℕ, zero, suc, ◌+◌, ◌≤◌, Bool, true, false, not, ◌||◌, Option, List, [], ◌∷◌, length, refl, sym, ap, arith}
-use Rattle.std.specs.List.{list_all}
-use Rattle.std.proofs.lemmas.Bool.{and_parts, true≢false}
-use Rattle.sqlite.specs.Order.{Row, column}
-use Rattle.sqlite_value.specs.declared.value.Value.{Value}
-use Rattle.sqlite.specs.declared.types.Value.TheVariants.{Null}
+use Rattle.gm_rows.proofs.Common.{◌≡◌, ◌∙◌, ℕ, zero, suc, ◌+◌, ◌≤◌, Bool, true, false, not, ◌||◌, Option, List, [], ◌∷◌, length, refl, sym, ap, arith, list_all, and_parts, true≢false, Row, column, Value, Null, columns_at}
 use Rattle.sqlite_schema.specs.declared.schema.Column.{Column}
 use Rattle.sqlite_schema.specs.Names.{is_key}
 use Rattle.sqlite_schema.specs.Rules.{are_typed, are_present}
 use Rattle.sqlite_sql.specs.Ops.{is_null}
-use Rattle.gm_rows.specs.Values.{columns_at}
 use Rattle.gm_rows.proofs.CountedNumbers.{count_from}
 
 -- none of the columns may be NULL

@@ -1,16 +1,7 @@
 -- What providers that agree hold, and what an adopted component is said to hold.
-use Rattle.std.proofs.Common.{◌≡◌, ◌≢◌, inl, inr, ℕ, zero, suc, ◌<◌, ◌≤◌, ◌/◌, ◌%◌, ◌==◌, ◌&&◌, true, nat_lt, refl, sym, subst, arith, List, eqb-true, ltb-true, ltb-false}
-use Rattle.std.specs.Str.{bytes_eq}
-use Rattle.std.proofs.lemmas.Bool.{cases_Bool, and_parts, and_from}
+use Rattle.gm_rules.proofs.Common.{◌≡◌, ◌≢◌, inl, inr, ℕ, zero, suc, ◌<◌, ◌≤◌, ◌/◌, ◌%◌, ◌==◌, ◌&&◌, true, nat_lt, refl, sym, subst, arith, List, eqb-true, ltb-true, ltb-false, bytes_eq, cases_Bool, and_parts, and_from, Image, agree, Member, MemberState, Inactive, held_by, held_of, Seen, data_of, is_borne_out, kept_offset, adopted_disk, adopted_syncid}
 use Rattle.std.proofs.lemmas.Slice.Eq.{bytes_eq-Decides}
-use Rattle.gm_metadata.specs.Images.{Image, agree}
-use Rattle.gm_taste.specs.declared.tasted.Member.{Member}
-use Rattle.gm_taste.specs.declared.tasted.MemberState.{MemberState}
 use Rattle.gm_taste.specs.declared.tasted.MemberState.TheVariants as tasted
-use Rattle.gm_state.specs.declared.records.Disk.TheVariants.{Inactive}
-use Rattle.gm_state.specs.Records.{held_by, held_of}
-use Rattle.gm_refusals.specs.Seen.{Seen}
-use Rattle.gm_refusals.specs.Adoptable.{data_of, is_borne_out, kept_offset, adopted_disk, adopted_syncid}
 
 -- a provider agrees with itself
 pub agree_itself : (x : Image) (p : List ℕ) (k : ℕ) → agree x p p k ≡ true

@@ -1,30 +1,8 @@
 -- What is registered of a mirror that is adopted: its record and its components keep the rules.
-use Rattle.std.proofs.Common.{◌≡◌, ◌≢◌, ◌∙◌, ⊎_elim, ℕ, ◌<◌, ◌≤◌, ◌+◌, true, false, IsTrue, refl, sym, ap, subst, arith, List, [], ◌∷◌, length, map, Option, Some, None, unwrap_or}
-use Rattle.std.specs.List.{list_all, list_any, filter_map, cons_option}
-use Rattle.std.proofs.lemmas.Bool.{or_parts, eq-eqb}
-use Rattle.std.proofs.lemmas.List.{length-map}
-use Rattle.gm_metadata.specs.Labels.{is_label}
-use Rattle.gm_metadata.specs.declared.metadata.Metadata.{Metadata}
-use Rattle.gm_taste.specs.declared.groups.Taken.{Taken}
-use Rattle.gm_taste.specs.declared.tasted.Member.{Member}
-use Rattle.gm_taste.specs.declared.tasted.MemberState.{MemberState}
-use Rattle.gm_taste.specs.declared.tasted.MemberState.TheVariants.{Active}
-use Rattle.gm_taste.specs.Tasting.{member}
-use Rattle.gm_lists.proofs.Lists.{Has-map, map-Has}
-use Rattle.gm_state.specs.declared.records.Mirror.{Mirror}
-use Rattle.gm_state.specs.declared.records.Component.{Component}
-use Rattle.gm_state.specs.declared.records.Disk.TheVariants.{InSync, Inactive}
-use Rattle.gm_lists.specs.Ordered.{Has, Ascends}
-use Rattle.gm_state.specs.Records.{IsMirror, ComponentFits, held_by, held_of, provider}
-use Rattle.gm_lists.proofs.Finding.{none_any, not_both}
-use Rattle.gm_lists.proofs.Sorting.{all_has}
-use Rattle.gm_refusals.specs.Seen.{Seen, is_there_and}
-use Rattle.gm_refusals.specs.Adoptable.{told, tells_did, tells_did_twice, taken, all_taken, genid_of, syncid_of, found, data_of, adopted_mirror, adopted_component, adopted_disk, adopted}
-use Rattle.gm_refusals.proofs.TakenProviders.{Fits, is_taken, taken_fits, taken_told}
+use Rattle.gm_rules.proofs.Common.{◌≡◌, ◌≢◌, ◌∙◌, ⊎_elim, ℕ, ◌<◌, ◌≤◌, ◌+◌, true, false, IsTrue, refl, sym, ap, subst, arith, List, [], ◌∷◌, length, map, Option, Some, None, unwrap_or, list_all, list_any, filter_map, cons_option, or_parts, length-map, is_label, Metadata, Taken, Member, MemberState, Active, member, Has-map, map-Has, Mirror, Component, InSync, Inactive, Has, Ascends, IsMirror, ComponentFits, held_by, held_of, provider, none_any, not_both, all_has, Seen, is_there_and, told, tells_did, tells_did_twice, taken, all_taken, genid_of, syncid_of, found, data_of, adopted_mirror, adopted_component, adopted_disk, adopted, Fits, is_taken, taken_fits, taken_told, Ascends-put_all, put_all_or, put_all_there, length-put_all_le}
+use Rattle.std.proofs.lemmas.Bool.{eq-eqb}
 use Rattle.gm_rules.proofs.FoundMembers.{IsFoundAs, IsAdoptable, active_is, member_found, syncid_bound}
 use Rattle.gm_rules.proofs.AdoptedEqual.{held_below, held_equal, syncid_within, syncid_current}
-use Rattle.gm_lists.proofs.PutInPlace.{Ascends-put_all}
-use Rattle.gm_lists.proofs.PutTogether.{put_all_or, put_all_there, length-put_all_le}
 
 -- ---- no did is told twice
 

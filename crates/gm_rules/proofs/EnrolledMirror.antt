@@ -1,24 +1,5 @@
 -- A command that registers a new mirror with its components.
-use Rattle.std.proofs.Common.{◌≡◌, ◌≢◌, ◌∙◌, inl, ℕ, ◌<◌, ◌≤◌, ◌+◌, false, sym, ap, arith, List, [], length, Some, None}
-use Rattle.gm_metadata.specs.Images.{same_label}
-use Rattle.gm_commands.specs.declared.command.Command.{Command}
-use Rattle.gm_state.specs.declared.records.Mirror.{Mirror}
-use Rattle.gm_state.specs.declared.records.Component.{Component}
-use Rattle.gm_lists.specs.Ordered.{Has, Ascends, put, put_all}
-use Rattle.gm_state.specs.Records.{Records, IsMirror, held_by, members, name, provider}
-use Rattle.gm_state.specs.Lookups.{component_of}
-use Rattle.gm_state.specs.World.{World, Sound, Below, ReplyFits, present}
-use Rattle.gm_state.proofs.FoundRecords.{new_name}
-use Rattle.gm_lists.proofs.Order.{same_from, differ}
-use Rattle.gm_lists.proofs.Putting.{length-put_le}
-use Rattle.gm_lists.proofs.Finding.{not_both}
-use Rattle.gm_lists.proofs.PutInPlace.{Ascends-put_all}
-use Rattle.gm_lists.proofs.PutTogether.{filter-put_all, filter-put_all_out, put_ordered}
-use Rattle.gm_state.proofs.NoMembers.{no_members}
-use Rattle.gm_changes.specs.After.{after, bytes_of, clears, fills, intents_of, metas, reply_to}
-use Rattle.gm_refusals.specs.Applies.{name_of}
-use Rattle.gm_refusals.specs.WorldFacts.{seen_of}
-use Rattle.gm_rules.specs.Step.{NewData, WereBare}
+use Rattle.gm_rules.proofs.Common.{◌≡◌, ◌≢◌, ◌∙◌, inl, ℕ, ◌<◌, ◌≤◌, ◌+◌, false, sym, ap, arith, List, [], length, Some, None, same_label, Command, Mirror, Component, Has, Ascends, put, put_all, Records, IsMirror, held_by, members, name, provider, component_of, World, Sound, Below, ReplyFits, present, new_name, same_from, differ, length-put_le, not_both, Ascends-put_all, filter-put_all, filter-put_all_out, put_ordered, no_members, after, bytes_of, clears, fills, intents_of, metas, reply_to, name_of, seen_of, NewData, WereBare}
 use Rattle.gm_rules.proofs.PlanOf.{PlanOf, Nothing}
 use Rattle.gm_rules.proofs.TurnedMirror.{Puts, put_turns, with_put}
 

@@ -1,11 +1,6 @@
 -- Each command that nothing refuses has a plan.
-use Rattle.std.proofs.Common.{ℕ, List}
-use Rattle.gm_commands.specs.declared.command.Command.{Command}
-use Rattle.gm_commands.specs.declared.command.Command.TheVariants.{Label, Insert, Remove, Deactivate, Activate, Forget, Rebuild, Configure, Clear, Destroy, Lost, Advance, Adopt, Patch}
-use Rattle.gm_state.specs.World.{World, Sound}
-use Rattle.gm_refusals.specs.Applies.{IsGood}
-use Rattle.gm_rules.specs.Step.{CanAnswer, HasPlan}
-use Rattle.gm_refusals.specs.WorldFacts.{seen_of}
+use Rattle.gm_rules.proofs.Common.{ℕ, List, Command, Label, Insert, Remove, Deactivate, Activate, Forget, Rebuild, Configure, Destroy, Lost, Advance, Adopt, World, Sound, IsGood, CanAnswer, HasPlan, seen_of}
+use Rattle.gm_commands.specs.declared.command.Command.TheVariants.{Clear, Patch}
 use Rattle.gm_rules.proofs.PlanOf.{Allowed, PlanOf}
 use Rattle.gm_rules.proofs.PlanOfStep.{has_plan}
 use Rattle.gm_rules.proofs.PlanLabel.{label_plan}

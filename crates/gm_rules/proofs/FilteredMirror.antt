@@ -1,23 +1,6 @@
 -- A command that drops components of a mirror: the mirror has another record, and the components
 -- that stay are as they were.
-use Rattle.std.proofs.Common.{◌≡◌, ◌≢◌, ◌∙◌, inl, ℕ, ◌<◌, ◌≤◌, ◌+◌, Bool, true, false, sym, ap, subst, arith, List, Some, filter, length}
-use Rattle.std.specs.List.{list_any}
-use Rattle.gm_metadata.specs.Images.{same_label}
-use Rattle.gm_commands.specs.declared.command.Command.{Command}
-use Rattle.gm_state.specs.declared.records.Mirror.{Mirror}
-use Rattle.gm_state.specs.declared.records.Component.{Component}
-use Rattle.gm_state.specs.declared.records.Disk.TheVariants.{InSync}
-use Rattle.gm_lists.specs.Ordered.{Has, Ascends}
-use Rattle.gm_state.specs.Records.{Records, IsMirror, members, provider}
-use Rattle.gm_state.specs.World.{World, Sound, present}
-use Rattle.gm_lists.proofs.Order.{same_is}
-use Rattle.gm_lists.proofs.Putting.{filter_swap, filter_id, one}
-use Rattle.gm_lists.proofs.Lists.{Has-filter, filter-Has, Ascends-filter}
-use Rattle.gm_lists.proofs.Finding.{not_both}
-use Rattle.gm_state.proofs.Presence.{some_and}
-use Rattle.gm_changes.specs.After.{after, clears, intents_of, laid_over}
-use Rattle.gm_refusals.specs.Applies.{is_awaited}
-use Rattle.gm_refusals.specs.WorldFacts.{seen_of}
+use Rattle.gm_rules.proofs.Common.{◌≡◌, ◌≢◌, ◌∙◌, inl, ℕ, ◌<◌, ◌≤◌, ◌+◌, Bool, true, false, sym, ap, subst, arith, List, Some, filter, length, list_any, same_label, Command, Mirror, Component, InSync, Has, Ascends, Records, IsMirror, members, provider, World, Sound, present, same_is, filter_swap, filter_id, one, Has-filter, filter-Has, Ascends-filter, not_both, some_and, after, clears, intents_of, laid_over, is_awaited, seen_of}
 use Rattle.gm_rules.proofs.LaidOver.{nothing_laid}
 use Rattle.gm_rules.proofs.PlanOf.{IsCleared, Nothing, PlanOf, TakesNothing, written}
 use Rattle.gm_rules.proofs.RuledOut.{Names}

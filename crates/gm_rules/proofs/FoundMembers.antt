@@ -1,25 +1,8 @@
 -- What adoptable providers are found to be: each is taken as a member of the mirror, and one is the
 -- source of its data.
-use Rattle.std.proofs.Common.{◌≡◌, ◌∙◌, ◌⊎◌, inl, inr, ⊎_elim, ℕ, ◌<◌, ◌≤◌, ◌==◌, ◌%◌, ◌&&◌, true, false, not, nat_lt, nat_le, refl, sym, ap, subst, arith, List, [], ◌∷◌, length, Option, Some, None, eqb-true, eq-eqb, ltb-true, ltb-false}
-use Rattle.std.specs.List.{list_all}
-use Rattle.std.proofs.lemmas.Bool.{cases_Bool, and_parts, leb-true}
-use Rattle.gm_metadata.specs.Images.{same_label}
-use Rattle.gm_metadata.specs.declared.metadata.Metadata.{Metadata}
-use Rattle.gm_taste.specs.declared.groups.Taken.{Taken}
-use Rattle.gm_taste.specs.declared.tasted.Member.{Member}
-use Rattle.gm_taste.specs.declared.tasted.MemberState.{MemberState}
-use Rattle.gm_taste.specs.declared.tasted.MemberState.TheVariants.{Active}
-use Rattle.gm_taste.specs.Tasting.{member}
-use Rattle.gm_taste.specs.Sources.{goes_before, takes_place, first_of_two, first_from}
-use Rattle.gm_taste.specs.States.{is_active, behind, state_of}
-use Rattle.gm_lists.proofs.Lists.{Has-map, Has-filter_map, filter_map-Has}
+use Rattle.gm_rules.proofs.Common.{◌≡◌, ◌∙◌, ◌⊎◌, inl, inr, ⊎_elim, ℕ, ◌<◌, ◌≤◌, ◌==◌, ◌%◌, ◌&&◌, true, false, not, nat_lt, nat_le, refl, sym, ap, subst, arith, List, [], ◌∷◌, length, Option, Some, None, eqb-true, eq-eqb, ltb-true, ltb-false, list_all, cases_Bool, and_parts, leb-true, same_label, Metadata, Taken, Member, MemberState, Active, member, goes_before, takes_place, first_of_two, first_from, behind, state_of, Has-map, Has-filter_map, filter_map-Has, Has, same_is, all_has, Seen, taken, all_taken, genid_of, syncid_of, found, source_in, data_of, is_whole, is_like, has_room, has_twice, is_adoptable, passes_there, where_is}
+use Rattle.gm_taste.specs.States.{is_active}
 use Rattle.gm_taste.proofs.GroupNumbers.{bound, greatest}
-use Rattle.gm_lists.specs.Ordered.{Has}
-use Rattle.gm_lists.proofs.Order.{same_is}
-use Rattle.gm_lists.proofs.Sorting.{all_has}
-use Rattle.gm_refusals.specs.Seen.{Seen}
-use Rattle.gm_refusals.specs.Adoptable.{taken, all_taken, genid_of, syncid_of, found, source_in, data_of, is_whole, is_like, has_room, has_twice, is_adoptable}
-use Rattle.gm_refusals.proofs.TakenProviders.{passes_there, where_is}
 
 -- the provider is taken, tells of the mirror n as m does, and has room for its data
 pub record IsAlike (x : Seen) (n : List ℕ) (m : Metadata) (p : List ℕ) : Type 0 where

@@ -1,17 +1,5 @@
 -- The intents that lay sectors over data of components: for each of them Dirty, Patch and Meta.
-use Rattle.std.proofs.Common.{◌≡◌, ◌≢◌, inl, inr, ℕ, true, false, refl, sym, subst, List, [], ◌∷◌, ◌++◌, filter, flat_map}
-use Rattle.std.specs.List.{list_any}
-use Rattle.std.proofs.lemmas.Bool.{or_left}
-use Rattle.gm_state.specs.declared.intents.Intent.{Intent}
-use Rattle.gm_state.specs.declared.intents.Intent.TheVariants.{Meta, Dirty, Patch}
-use Rattle.gm_state.specs.declared.records.Component.{Component}
-use Rattle.gm_lists.specs.Ordered.{Has, Ascends}
-use Rattle.gm_state.specs.Records.{provider}
-use Rattle.gm_state.specs.Intents.{any_copies, is_dirty_of, is_meta_of}
-use Rattle.gm_state.specs.Readable.{AreOrderedFrom, is_copy, is_fill_of}
-use Rattle.gm_changes.specs.After.{patching}
-use Rattle.gm_lists.proofs.Finding.{any_from, any_none, Has-append_right}
-use Rattle.gm_lists.proofs.Order.{differ, lt_differ, same_refl}
+use Rattle.gm_rules.proofs.Common.{◌≡◌, ◌≢◌, inl, inr, ℕ, true, false, refl, sym, subst, List, [], ◌∷◌, ◌++◌, filter, flat_map, list_any, or_left, Intent, Meta, Dirty, Patch, Component, Has, Ascends, provider, any_copies, is_dirty_of, is_meta_of, AreOrderedFrom, is_copy, is_fill_of, patching, any_from, any_none, Has-append_right, differ, lt_differ, same_refl}
 
 module _ (first end : ℕ) where
   abbrev pub patchings : List Component → List Intent

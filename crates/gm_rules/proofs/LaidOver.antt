@@ -1,14 +1,7 @@
 -- What a command lays over the data of mirrors: nothing, or sectors over those of the mirror that
 -- it names.
-use Rattle.std.proofs.Common.{◌≡◌, ◌≢◌, ◌∙◌, ℕ, ◌+◌, ◌&&◌, nat_le, nat_lt, false, refl, sym, ap, arith, List, [], length, Some}
-use Rattle.std.proofs.lemmas.Bool.Decides.{nat_tests}
-use Rattle.std.proofs.Math.Bool.{and-false}
-use Rattle.gm_metadata.specs.Images.{same_label}
-use Rattle.gm_commands.specs.declared.command.Command.{Command}
+use Rattle.gm_rules.proofs.Common.{◌≡◌, ◌≢◌, ◌∙◌, ℕ, ◌+◌, ◌&&◌, nat_le, nat_lt, false, refl, sym, ap, arith, List, [], length, Some, nat_tests, and-false, same_label, Command, differ, bytes_of, laid_over, name_of}
 use Rattle.gm_commands.specs.declared.command.Command.TheVariants.{Patch}
-use Rattle.gm_lists.proofs.Order.{differ}
-use Rattle.gm_changes.specs.After.{bytes_of, laid_over}
-use Rattle.gm_refusals.specs.Applies.{name_of}
 
 in_no_range : (first n i : ℕ) → n ≡ 0 → (nat_le first i && nat_lt i (first + n)) ≡ false
 in_no_range first n i e = grind (arith, nat_tests)

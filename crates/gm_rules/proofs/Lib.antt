@@ -1,5 +1,6 @@
 pub mod AdoptedEqual
 pub mod AdoptedState
+pub mod Common
 pub mod EnrolledMirror
 pub mod EveryPlan
 pub mod FilteredMirror

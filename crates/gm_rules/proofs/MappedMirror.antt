@@ -1,30 +1,6 @@
 -- A command that keeps the components of its mirror: the mirror has another record, and each
 -- component is changed where it stands.
-use Rattle.std.proofs.Common.{◌≡◌, ◌≢◌, ◌∙◌, ◌⊎◌, inl, inr, ⊎_elim, ℕ, ◌<◌, ◌≤◌, ◌-◌, ◌+◌, ◌^◌, Bool, true, false, refl, sym, ap, ap₂, subst, arith, List, [], ◌∷◌, Some, length, map, cond}
-use Rattle.std.proofs.lemmas.Bool.{cases_Bool}
-use Rattle.std.proofs.lemmas.List.{length-map}
-use Rattle.gm_metadata.specs.Images.{same_label}
-use Rattle.gm_metadata.specs.Reading.{encoded}
-use Rattle.gm_commands.specs.declared.command.Command.{Command}
-use Rattle.gm_state.specs.declared.intents.Intent.TheVariants.{Meta}
-use Rattle.gm_state.specs.declared.records.Mirror.{Mirror}
-use Rattle.gm_state.specs.declared.records.Component.{Component}
-use Rattle.gm_state.specs.declared.records.Disk.{Disk}
-use Rattle.gm_state.specs.declared.records.Disk.TheVariants.{InSync, Inactive, Copying}
-use Rattle.gm_lists.specs.Ordered.{Has, Ascends, put, put_all}
-use Rattle.gm_state.specs.Records.{Records, IsMirror, ComponentFits, held_by, held_of, members, name, provider}
-use Rattle.gm_state.specs.Lookups.{is_inactive, metadata}
-use Rattle.gm_state.specs.World.{World, Sound, Below, ReplyFits, present}
-use Rattle.gm_lists.proofs.Order.{same_is, same_from, same_tells, differ}
-use Rattle.gm_lists.proofs.Lists.{Has-filter, Has-map, map-Has}
-use Rattle.gm_lists.proofs.Putting.{one}
-use Rattle.gm_lists.proofs.Mapped.{map_id, put-map}
-use Rattle.gm_lists.proofs.PutInPlace.{Ascends-put_all}
-use Rattle.gm_changes.specs.After.{after, bytes_of, clears, fills, freshened, intents_of, laid_over, metas, reply_to}
-use Rattle.gm_changes.proofs.KeptComponents.{Keeps, keeps_either, keeps_id, keeps_where, mapped_members, members_put, put-again, put_mapped, where_of}
-use Rattle.gm_refusals.specs.Applies.{is_awaited}
-use Rattle.gm_refusals.specs.WorldFacts.{seen_of}
-use Rattle.gm_rules.specs.Step.{NewData, WereBare}
+use Rattle.gm_rules.proofs.Common.{◌≡◌, ◌≢◌, ◌∙◌, ◌⊎◌, inl, inr, ⊎_elim, ℕ, ◌<◌, ◌≤◌, ◌-◌, ◌+◌, ◌^◌, Bool, true, false, refl, sym, ap, ap₂, subst, arith, List, [], ◌∷◌, Some, length, map, cond, cases_Bool, length-map, same_label, encoded, Command, Meta, Mirror, Component, Disk, InSync, Inactive, Copying, Has, Ascends, put, put_all, Records, IsMirror, ComponentFits, held_by, held_of, members, name, provider, is_inactive, metadata, World, Sound, Below, ReplyFits, present, same_is, same_from, same_tells, differ, Has-filter, Has-map, map-Has, one, map_id, put-map, Ascends-put_all, after, bytes_of, clears, fills, freshened, intents_of, laid_over, metas, reply_to, Keeps, keeps_either, keeps_id, keeps_where, mapped_members, members_put, put-again, put_mapped, where_of, is_awaited, seen_of, NewData, WereBare}
 use Rattle.gm_rules.proofs.LaidOver.{nothing_laid}
 use Rattle.gm_rules.proofs.PlanOf.{CanFill, Fill, Nothing, PlanOf, TakesNothing, bytes_in, is_filled, with_filled, written}
 use Rattle.gm_rules.proofs.RuledOut.{CanTouch, Names}

@@ -1,10 +1,6 @@
 -- One more answered key.
-use Rattle.std.proofs.Common.{◌≡◌, ◌∙◌, ⊎_elim, ℕ, ◌<◌, refl, sym, ap, subst, arith, List, ◌∷◌, length}
-use Rattle.gm_commands.specs.declared.command.Command.{Command}
+use Rattle.gm_rules.proofs.Common.{◌≡◌, ◌∙◌, ⊎_elim, ℕ, ◌<◌, refl, sym, ap, subst, arith, List, ◌∷◌, length, Command, Has, World, Answered, AnswerFits, ReplyFits, AreAnswers, CanAnswer, answer}
 use Rattle.gm_state.specs.declared.intents.Reply.{Reply}
-use Rattle.gm_lists.specs.Ordered.{Has}
-use Rattle.gm_state.specs.World.{World, Answered, AnswerFits, ReplyFits, AreAnswers}
-use Rattle.gm_rules.specs.Step.{CanAnswer, answer}
 
 pub answers_after : (u : World) (key : List ℕ) (c : Command) (r : Reply) → ReplyFits r
     → AreAnswers u.answered → CanAnswer u key c → AreAnswers (answer u key c r ∷ u.answered)

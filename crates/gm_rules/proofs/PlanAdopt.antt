@@ -1,22 +1,7 @@
 -- The plan of adopt.
-use Rattle.std.proofs.Common.{◌≡◌, ◌≢◌, ◌∙◌, ℕ, ◌≤◌, true, refl, sym, ap, subst, List, Some, None}
-use Rattle.std.specs.List.{list_any}
-use Rattle.std.proofs.lemmas.Bool.{or_parts, not-false, eq-eqb}
-use Rattle.gm_taste.specs.declared.tasted.Member.{Member}
-use Rattle.gm_commands.specs.declared.command.Command.TheVariants.{Adopt}
-use Rattle.gm_state.specs.declared.records.Mirror.{Mirror}
-use Rattle.gm_state.specs.declared.records.Component.{Component}
-use Rattle.gm_lists.specs.Ordered.{Has}
-use Rattle.gm_state.specs.Records.{held_by}
-use Rattle.gm_state.specs.Lookups.{component_of}
-use Rattle.gm_state.specs.World.{World, present}
-use Rattle.gm_lists.proofs.Finding.{none_any, not_both}
+use Rattle.gm_rules.proofs.Common.{◌≡◌, ◌≢◌, ◌∙◌, ℕ, ◌≤◌, true, refl, sym, ap, subst, List, Some, None, list_any, or_parts, not-false, Member, Adopt, Mirror, Component, Has, held_by, component_of, World, present, none_any, not_both, Seen, tells_mid, source_in, data_of, adopted_mirror, adopted, metas, seen_of, taken_told}
+use Rattle.std.proofs.lemmas.Bool.{eq-eqb}
 use Rattle.gm_refusals.specs.declared.refusals.Refusal.TheVariants as refusals
-use Rattle.gm_refusals.specs.Seen.{Seen}
-use Rattle.gm_refusals.specs.Adoptable.{tells_mid, source_in, data_of, adopted_mirror, adopted}
-use Rattle.gm_changes.specs.After.{metas}
-use Rattle.gm_refusals.specs.WorldFacts.{seen_of}
-use Rattle.gm_refusals.proofs.TakenProviders.{taken_told}
 use Rattle.gm_rules.proofs.AdoptedEqual.{agree_itself, agree_holds}
 use Rattle.gm_rules.proofs.AdoptedState.{IsAdopted, is_adopted, in_order, provider_is, size_is, equal_held, adopted_rules}
 use Rattle.gm_rules.proofs.EnrolledMirror.{enrolls_plan}

@@ -1,31 +1,12 @@
 -- The plan of advance: the next stretch of a mirror's data is copied to a component, which then
 -- says so.
-use Rattle.std.proofs.Common.{◌≡◌, ◌≢◌, ◌∙◌, inl, inr, ℕ, ◌<◌, ◌≤◌, ◌+◌, ◌==◌, Bool, refl, sym, ap, subst, arith, List, [], ◌∷◌, Some, map, nat_le, nat_lt, eqb-true, ltb-true}
-use Rattle.std.proofs.lemmas.Bool.{cases_Bool, lt-ltb, eqb-false, leb-false}
-use Rattle.gm_metadata.specs.Images.{same_label}
-use Rattle.gm_commands.specs.declared.command.Command.{Command}
-use Rattle.gm_commands.specs.declared.command.Command.TheVariants.{Advance}
-use Rattle.gm_state.specs.declared.records.Mirror.{Mirror}
-use Rattle.gm_state.specs.declared.records.Component.{Component}
-use Rattle.gm_state.specs.declared.records.Disk.{Disk}
-use Rattle.gm_state.specs.declared.records.Disk.TheVariants.{InSync, Copying}
-use Rattle.gm_lists.specs.Ordered.{Has}
-use Rattle.gm_state.specs.Records.{IsMirror, held_by, held_of, members, provider}
-use Rattle.gm_state.specs.Lookups.{component_of}
-use Rattle.gm_state.specs.Sources.{source_of}
-use Rattle.gm_state.specs.World.{World, Below, ReplyFits}
+use Rattle.gm_rules.proofs.Common.{◌≡◌, ◌≢◌, ◌∙◌, inl, inr, ℕ, ◌<◌, ◌≤◌, ◌+◌, ◌==◌, Bool, refl, sym, ap, subst, arith, List, [], ◌∷◌, Some, map, nat_le, nat_lt, eqb-true, ltb-true, cases_Bool, lt-ltb, eqb-false, leb-false, same_label, Command, Advance, Mirror, Component, Disk, InSync, Copying, Has, IsMirror, held_by, held_of, members, provider, component_of, source_of, World, Below, ReplyFits, same_is, same_refl, differ, Has-filter, map-Has, find_one, advanced, holding, reach, reply_to, Keeps, is_member}
 use Rattle.gm_state.proofs.FoundSource.{source_of_is}
-use Rattle.gm_lists.proofs.Order.{same_is, same_refl, differ}
-use Rattle.gm_lists.proofs.Lists.{Has-filter, map-Has}
-use Rattle.gm_lists.proofs.Finding.{find_one}
 use Rattle.gm_refusals.specs.declared.refusals.Refusal.TheVariants as refusals
-use Rattle.gm_changes.specs.After.{advanced, holding, reach, reply_to}
-use Rattle.gm_changes.proofs.KeptComponents.{Keeps}
 use Rattle.gm_changes.proofs.LendingComponent.{is_copying, lender}
 use Rattle.gm_rules.proofs.MappedMirror.{Obeys, Reshapes, all_but_one, at_p, either, maps_plan, off, one_put, one_reshapes, one_told}
 use Rattle.gm_rules.proofs.PlanOf.{Allowed, Copied, IsLent, PlanOf, Stretch, with_filled}
 use Rattle.gm_rules.proofs.RuledOut.{CanTouch, Names, by_name, component_at}
-use Rattle.gm_state.proofs.FoundRecords.{is_member}
 
 -- ---- what a component holds after a stretch
 

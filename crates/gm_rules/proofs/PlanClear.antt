@@ -1,19 +1,7 @@
 -- The plan of clear: no mirror turns.
-use Rattle.std.proofs.Common.{◌≡◌, ◌≢◌, ◌∙◌, inl, inr, ⊎_elim, ℕ, ◌<◌, ◌≤◌, true, false, refl, sym, ap, subst, arith, List, [], ◌∷◌, true≢false}
-use Rattle.std.proofs.Math.Bool.{or-false}
-use Rattle.gm_metadata.specs.Images.{same_label}
-use Rattle.gm_metadata.specs.Labels.{is_label}
+use Rattle.gm_rules.proofs.Common.{◌≡◌, ◌≢◌, ◌∙◌, inl, inr, ⊎_elim, ℕ, ◌<◌, ◌≤◌, true, false, refl, sym, ap, subst, arith, List, [], ◌∷◌, true≢false, or-false, same_label, is_label, Mirror, Has, World, present, same_from, differ, not_both, seen_of, new_name, no_members, some_and}
 use Rattle.gm_metadata.specs.declared.balance.Balance.TheVariants as balances
 use Rattle.gm_commands.specs.declared.command.Command.TheVariants.{Clear}
-use Rattle.gm_state.specs.declared.records.Mirror.{Mirror}
-use Rattle.gm_lists.specs.Ordered.{Has}
-use Rattle.gm_state.specs.World.{World, present}
-use Rattle.gm_lists.proofs.Order.{same_from, differ}
-use Rattle.gm_lists.proofs.Finding.{not_both}
-use Rattle.gm_refusals.specs.WorldFacts.{seen_of}
-use Rattle.gm_state.proofs.FoundRecords.{new_name}
-use Rattle.gm_state.proofs.NoMembers.{no_members}
-use Rattle.gm_state.proofs.Presence.{some_and}
 use Rattle.gm_rules.proofs.PlanOf.{Allowed, IsCleared, PlanOf, Nothing}
 use Rattle.gm_rules.proofs.RuledOut.{IsFree, is_free}
 

@@ -1,21 +1,5 @@
 -- The plan of destroy: the mirror goes with its components.
-use Rattle.std.proofs.Common.{◌≡◌, ◌≢◌, ◌∙◌, inr, ℕ, ◌≤◌, Bool, not, refl, sym, ap, subst, arith, List, [], ◌∷◌, append-nil, length, filter, map}
-use Rattle.std.proofs.lemmas.Bool.{not-true}
-use Rattle.gm_metadata.specs.Images.{same_label}
-use Rattle.gm_commands.specs.declared.command.Command.TheVariants.{Destroy}
-use Rattle.gm_state.specs.declared.intents.Intent.{Intent}
-use Rattle.gm_state.specs.declared.intents.Intent.TheVariants.{Clear}
-use Rattle.gm_state.specs.declared.records.Mirror.{Mirror}
-use Rattle.gm_state.specs.declared.records.Component.{Component}
-use Rattle.gm_lists.specs.Ordered.{Has, without}
-use Rattle.gm_state.specs.Records.{Records, IsState, IsMirror, members, name, provider}
-use Rattle.gm_state.specs.World.{World, Sound}
-use Rattle.gm_lists.proofs.Order.{same_from, differ}
-use Rattle.gm_lists.proofs.Putting.{length-filter_le, one}
-use Rattle.gm_lists.proofs.Lists.{Has-filter, Has-map, filter-Has, Ascends-filter}
-use Rattle.gm_lists.proofs.Finding.{any-map, not_both}
-use Rattle.gm_changes.specs.After.{clears_of}
-use Rattle.gm_state.proofs.NoMembers.{no_members}
+use Rattle.gm_rules.proofs.Common.{◌≡◌, ◌≢◌, ◌∙◌, inr, ℕ, ◌≤◌, Bool, not, refl, sym, ap, subst, arith, List, [], ◌∷◌, append-nil, length, filter, map, not-true, same_label, Destroy, Intent, Clear, Mirror, Component, Has, without, Records, IsState, IsMirror, members, name, provider, World, Sound, same_from, differ, length-filter_le, one, Has-filter, Has-map, filter-Has, Ascends-filter, any-map, not_both, clears_of, no_members}
 use Rattle.gm_rules.proofs.FilteredMirror.{IsDropped, drops, in_order, others_stay}
 use Rattle.gm_rules.proofs.PlanOf.{Allowed, PlanOf, Nothing}
 use Rattle.gm_rules.proofs.RuledOut.{Names, by_name}

@@ -1,28 +1,7 @@
 -- The plan of insert.
-use Rattle.std.proofs.Common.{◌≡◌, ◌≢◌, inl, ⊎_elim, ℕ, ◌<◌, ◌≤◌, ◌+◌, ◌==◌, nat_lt, refl, sym, ap, subst, arith, List, [], ◌∷◌, Some, length}
-use Rattle.std.specs.List.{list_any}
-use Rattle.std.proofs.lemmas.Bool.{or_parts}
-use Rattle.gm_metadata.specs.Images.{same_label}
+use Rattle.gm_rules.proofs.Common.{◌≡◌, ◌≢◌, inl, ⊎_elim, ℕ, ◌<◌, ◌≤◌, ◌+◌, ◌==◌, nat_lt, refl, sym, ap, subst, arith, List, [], ◌∷◌, Some, length, list_any, or_parts, same_label, Command, Insert, Mirror, Component, Inactive, Has, put, Records, IsMirror, ComponentFits, held_by, held_of, members, provider, mirror_of, World, Below, present, same_from, same_refl, differ, filter-put, filter-put_out, put_stays, put_or, Ascends-put, length-put_le, Has-filter, any_one, none_any, not_both, metas, spare, is_there_and, seen_of, fails_there, not_below, not_at, new_name}
 use Rattle.gm_commands.specs.declared.command.NewComponent.{NewComponent}
-use Rattle.gm_commands.specs.declared.command.Command.{Command}
-use Rattle.gm_commands.specs.declared.command.Command.TheVariants.{Insert}
-use Rattle.gm_state.specs.declared.records.Mirror.{Mirror}
-use Rattle.gm_state.specs.declared.records.Component.{Component}
-use Rattle.gm_state.specs.declared.records.Disk.TheVariants.{Inactive}
-use Rattle.gm_lists.specs.Ordered.{Has, put}
-use Rattle.gm_state.specs.Records.{Records, IsMirror, ComponentFits, held_by, held_of, members, provider}
-use Rattle.gm_state.specs.Lookups.{mirror_of}
-use Rattle.gm_state.specs.World.{World, Below, present}
-use Rattle.gm_lists.proofs.Order.{same_from, same_refl, differ}
-use Rattle.gm_lists.proofs.Putting.{filter-put, filter-put_out, put_stays, put_or, Ascends-put, length-put_le}
-use Rattle.gm_lists.proofs.Lists.{Has-filter}
-use Rattle.gm_lists.proofs.Finding.{any_one, none_any, not_both}
 use Rattle.gm_refusals.specs.declared.refusals.Refusal.TheVariants as refusals
-use Rattle.gm_changes.specs.After.{metas, spare}
-use Rattle.gm_refusals.specs.Seen.{is_there_and}
-use Rattle.gm_refusals.specs.WorldFacts.{seen_of}
-use Rattle.gm_refusals.proofs.NothingApplies.{fails_there, not_below, not_at}
-use Rattle.gm_state.proofs.FoundRecords.{new_name}
 use Rattle.gm_rules.proofs.PlanOf.{Allowed, PlanOf, Nothing}
 use Rattle.gm_rules.proofs.RuledOut.{IsFree, Names, by_name, is_free, put_bare}
 use Rattle.gm_rules.proofs.TurnedMirror.{Adjusts, adjusts_data, Renews, adjusts_turns, renewed_fits, with_put}

@@ -1,19 +1,7 @@
 -- The plan of label.
-use Rattle.std.proofs.Common.{◌≡◌, ◌≢◌, inl, ⊎_elim, ◌<◌, ◌≤◌, ◌+◌, refl, ap, subst, arith, [], ◌∷◌, Some, None}
+use Rattle.gm_rules.proofs.Common.{◌≡◌, ◌≢◌, inl, ⊎_elim, ◌<◌, ◌≤◌, ◌+◌, refl, ap, subst, arith, [], ◌∷◌, Some, None, Label, Mirror, Component, Inactive, Has, Records, IsMirror, ComponentFits, held_by, held_of, component_of, World, Below, present, new_mirror, first_component, seen_of, none_any, not_at}
 use Rattle.gm_commands.specs.declared.command.NewMirror.{NewMirror}
-use Rattle.gm_commands.specs.declared.command.Command.TheVariants.{Label}
-use Rattle.gm_state.specs.declared.records.Mirror.{Mirror}
-use Rattle.gm_state.specs.declared.records.Component.{Component}
-use Rattle.gm_state.specs.declared.records.Disk.TheVariants.{Inactive}
-use Rattle.gm_lists.specs.Ordered.{Has}
-use Rattle.gm_state.specs.Records.{Records, IsMirror, ComponentFits, held_by, held_of}
-use Rattle.gm_state.specs.Lookups.{component_of}
-use Rattle.gm_state.specs.World.{World, Below, present}
 use Rattle.gm_refusals.specs.declared.refusals.Refusal.TheVariants as refusals
-use Rattle.gm_changes.specs.After.{new_mirror, first_component}
-use Rattle.gm_refusals.specs.WorldFacts.{seen_of}
-use Rattle.gm_lists.proofs.Finding.{none_any}
-use Rattle.gm_refusals.proofs.NothingApplies.{not_at}
 use Rattle.gm_rules.proofs.EnrolledMirror.{enrolls_plan}
 use Rattle.gm_rules.proofs.PlanOf.{Allowed, PlanOf}
 use Rattle.gm_rules.proofs.RuledOut.{IsFree, is_free, no_namesake, one_more_mirror, put_bare}

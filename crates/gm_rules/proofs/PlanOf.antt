@@ -5,29 +5,7 @@
 -- go; MappedMirror: they are changed where they stand. PlanInsert, PlanClear and PlanDestroy show
 -- it themselves. What a command may take from its refusals stands in RuledOut: of a mirror that it
 -- names by_name, of providers that it takes is_free.
-use Rattle.std.proofs.Common.{◌≡◌, ◌≢◌, ◌⊎◌, ℕ, ◌+◌, ◌-◌, ◌<◌, ◌≤◌, ◌&&◌, nat_le, nat_lt, Bool, false, List, [], ◌∷◌, ◌++◌, find, flat_map, length, map, cond, Some, None, IsTrue}
-use Rattle.std.specs.Prelude.{IsSomeAnd, slice_index_or}
-use Rattle.std.specs.List.{list_any}
-use Rattle.gm_metadata.specs.Images.{Image, same_label}
-use Rattle.gm_metadata.specs.Labels.{is_label}
-use Rattle.gm_metadata.specs.Reading.{encoded}
-use Rattle.gm_commands.specs.declared.command.Command.{Command}
-use Rattle.gm_commands.specs.Commands.{CommandFits}
-use Rattle.gm_commands.specs.Sectors.{AreSectors}
-use Rattle.gm_state.specs.declared.intents.Intent.{Intent}
-use Rattle.gm_state.specs.declared.intents.Intent.TheVariants.{Clear, Copy}
-use Rattle.gm_state.specs.declared.records.Mirror.{Mirror}
-use Rattle.gm_state.specs.declared.records.Component.{Component}
-use Rattle.gm_state.specs.declared.records.Disk.TheVariants.{InSync}
-use Rattle.gm_lists.specs.Ordered.{Has}
-use Rattle.gm_state.specs.Records.{Records, held_by}
-use Rattle.gm_state.specs.Lookups.{metadata}
-use Rattle.gm_state.specs.Intents.{IsOf, copies}
-use Rattle.gm_state.specs.World.{World, Sound, Below, ReplyFits, present}
-use Rattle.gm_refusals.specs.Applies.{IsGood, name_of}
-use Rattle.gm_refusals.specs.WorldFacts.{seen_of}
-use Rattle.gm_changes.specs.After.{active_of, after, bytes_of, clears, fills, intents_of, laid_over, metas, patching, reply_to}
-use Rattle.gm_rules.specs.Step.{NewData, WereBare}
+use Rattle.gm_rules.proofs.Common.{◌≡◌, ◌≢◌, ◌⊎◌, ℕ, ◌+◌, ◌-◌, ◌<◌, ◌≤◌, ◌&&◌, nat_le, nat_lt, Bool, false, List, [], ◌∷◌, ◌++◌, find, flat_map, length, map, cond, Some, None, IsTrue, IsSomeAnd, slice_index_or, list_any, Image, same_label, is_label, encoded, Command, CommandFits, AreSectors, Intent, Clear, Copy, Mirror, Component, InSync, Has, Records, held_by, metadata, IsOf, copies, World, Sound, Below, ReplyFits, present, IsGood, name_of, seen_of, active_of, after, bytes_of, clears, fills, intents_of, laid_over, metas, patching, reply_to, NewData, WereBare}
 use Rattle.gm_rules.proofs.TurnedMirror.{Turns}
 
 -- nothing refuses the command in the world

@@ -1,30 +1,7 @@
 -- From what a command shows to its plan.
-use Rattle.std.proofs.Common.{◌≡◌, ◌∙◌, inl, inr, ⊎_elim, ℕ, ◌+◌, ◌-◌, ◌<◌, ◌≤◌, ◌==◌, ◌&&◌, ◌||◌, Bool, true, false, refl, sym, ap, subst, arith, List, [], filter, find, length, Option, None, Some, nat_le, nat_lt, ltb-true, eq-eqb}
-use Rattle.std.specs.Prelude.{IsSomeAnd, slice_get}
-use Rattle.std.specs.List.{list_any}
-use Rattle.std.proofs.lemmas.Bool.{cases_Bool, and_parts, leb-true, or_parts}
-use Rattle.gm_metadata.specs.Images.{Image, same_label, zeros}
-use Rattle.gm_metadata.specs.Reading.{encoded}
-use Rattle.gm_commands.specs.declared.command.Command.{Command}
-use Rattle.gm_state.specs.declared.intents.Intent.{Intent}
-use Rattle.gm_state.specs.declared.intents.Intent.TheVariants.{Meta, Clear, Dirty, Patch}
-use Rattle.gm_state.specs.declared.records.Component.{Component}
-use Rattle.gm_lists.specs.Ordered.{Has}
-use Rattle.gm_state.specs.Intents.{AreThere, is_last, names, is_place, IsMeta, Says, IsAtHand}
-use Rattle.gm_state.specs.Lookups.{component_of, metadata}
-use Rattle.gm_state.specs.Readable.{AreReadable, IsReadable}
-use Rattle.gm_state.specs.Records.{provider}
-use Rattle.gm_state.specs.World.{World, Sound, CopiesData, present}
-use Rattle.gm_lists.proofs.Order.{same_is, same_from, same_refl, differ}
-use Rattle.gm_lists.proofs.Finding.{any_from, find_none, find_one, found, not_both, option_cases}
-use Rattle.gm_state.proofs.PatchFound.{no_dirt_left}
-use Rattle.gm_state.proofs.Places.{copied_at, last_named, place_from}
-use Rattle.gm_state.proofs.Presence.{some_and}
+use Rattle.gm_rules.proofs.Common.{◌≡◌, ◌∙◌, inl, inr, ⊎_elim, ℕ, ◌+◌, ◌-◌, ◌<◌, ◌≤◌, ◌==◌, ◌&&◌, ◌||◌, Bool, true, false, refl, sym, ap, subst, arith, List, [], filter, find, length, Option, None, Some, nat_le, nat_lt, ltb-true, eq-eqb, IsSomeAnd, slice_get, list_any, cases_Bool, and_parts, leb-true, or_parts, Image, same_label, zeros, encoded, Command, Intent, Meta, Clear, Dirty, Patch, Component, Has, AreThere, is_last, names, is_place, IsMeta, Says, IsAtHand, component_of, metadata, AreReadable, IsReadable, provider, World, Sound, CopiesData, present, same_is, same_from, same_refl, differ, any_from, find_none, find_one, not_both, option_cases, no_dirt_left, copied_at, last_named, place_from, some_and, clears, fills, intents_of, IsGood, applies, is_member_of, seen_of, CanAnswer, HasPlan, IsOwn, Plan, is_changed}
+use Rattle.gm_lists.proofs.Finding.{found}
 use Rattle.gm_state.proofs.ReadableIntents.{in_order, lent}
-use Rattle.gm_changes.specs.After.{clears, fills, intents_of}
-use Rattle.gm_refusals.specs.Applies.{IsGood, applies, is_member_of}
-use Rattle.gm_refusals.specs.WorldFacts.{seen_of}
-use Rattle.gm_rules.specs.Step.{CanAnswer, HasPlan, IsOwn, Plan, is_changed}
 use Rattle.gm_rules.proofs.PlanOf.{PlanOf, Stretch, bytes_in, copying, with_filled, written}
 use Rattle.gm_rules.proofs.StepOfMirror.{as_copied, brought, claims_after, data_after, data_stay, is_gone, last_new, mine, next, registered, size_of, some_sectors, sound_next}
 use Rattle.gm_rules.proofs.WrittenIntents.{Brings, IsBrought, IsLaidOn, clear_there, each, last_is, meta_there}

@@ -1,30 +1,8 @@
 -- The plan of patch: sectors are laid over the data of a mirror, and its ACTIVE components say so.
-use Rattle.std.proofs.Common.{◌≡◌, ◌≢◌, ◌∙◌, ◌⊎◌, inl, inr, ⊎_elim, ℕ, ◌+◌, ◌<◌, ◌≤◌, ◌&&◌, nat_le, nat_lt, true, false, refl, sym, ap, subst, arith, List, [], find, flat_map, length, map, None}
-use Rattle.std.specs.List.{list_any}
-use Rattle.std.proofs.lemmas.Bool.{cases_Bool}
-use Rattle.gm_metadata.specs.Images.{same_label}
-use Rattle.gm_commands.specs.declared.command.Command.{Command}
+use Rattle.gm_rules.proofs.Common.{◌≡◌, ◌≢◌, ◌∙◌, ◌⊎◌, inl, inr, ⊎_elim, ℕ, ◌+◌, ◌<◌, ◌≤◌, ◌&&◌, nat_le, nat_lt, true, false, refl, sym, ap, subst, arith, List, [], find, flat_map, length, map, None, list_any, cases_Bool, same_label, Command, Mirror, Component, Disk, InSync, Inactive, Copying, Has, IsMirror, held_by, members, name, IsOf, is_active, metadata, World, Below, any-map, any_agree, any_from, found_none, none_any, not_both, Has-filter, filter-Has, map-Has, filter-map, same_from, same_refl, one, is_being_filled, ends_within, one_more_sync, active_of, freshened, laid_over, patching, Keeps, keeps_freshened, members_put}
 use Rattle.gm_commands.specs.declared.command.Command.TheVariants.{Patch}
 use Rattle.gm_commands.proofs.JoinedSectors.{are_long}
-use Rattle.gm_state.specs.declared.records.Mirror.{Mirror}
-use Rattle.gm_state.specs.declared.records.Component.{Component}
-use Rattle.gm_state.specs.declared.records.Disk.{Disk}
-use Rattle.gm_state.specs.declared.records.Disk.TheVariants.{InSync, Inactive, Copying}
-use Rattle.gm_lists.specs.Ordered.{Has}
-use Rattle.gm_state.specs.Records.{IsMirror, held_by, members, name}
-use Rattle.gm_state.specs.Intents.{IsOf}
-use Rattle.gm_state.specs.Lookups.{is_active, metadata}
-use Rattle.gm_state.specs.World.{World, Below}
-use Rattle.gm_lists.proofs.Finding.{any-map, any_agree, any_from, found_none, none_any, not_both}
-use Rattle.gm_lists.proofs.Lists.{Has-filter, filter-Has, map-Has}
-use Rattle.gm_lists.proofs.Mapped.{filter-map}
-use Rattle.gm_lists.proofs.Order.{same_from, same_refl}
-use Rattle.gm_lists.proofs.Putting.{one}
 use Rattle.gm_refusals.specs.declared.refusals.Refusal.TheVariants as refusals
-use Rattle.gm_refusals.specs.Applies.{is_being_filled}
-use Rattle.gm_refusals.proofs.NothingApplies.{ends_within, one_more_sync}
-use Rattle.gm_changes.specs.After.{active_of, freshened, laid_over, patching}
-use Rattle.gm_changes.proofs.KeptComponents.{Keeps, keeps_freshened, members_put}
 use Rattle.gm_rules.proofs.MappedMirror.{Reshapes, fresh_disk, maps_plan, obeys_freshened}
 use Rattle.gm_rules.proofs.PlanOf.{Allowed, Fill, IsLaid, Laid, PlanOf, with_filled}
 use Rattle.gm_rules.proofs.RuledOut.{Names, by_name}

@@ -1,28 +1,10 @@
 -- The plans of remove and lost, which drop components of their mirror.
-use Rattle.std.proofs.Common.{◌≡◌, ◌≢◌, ◌∙◌, inl, inr, ⊎_elim, ℕ, ◌<◌, ◌≤◌, ◌+◌, ◌-◌, ◌||◌, Bool, true, false, not, refl, sym, ap, arith, List, [], ◌∷◌, filter, length}
-use Rattle.std.specs.List.{list_any}
-use Rattle.std.proofs.lemmas.Bool.{cases_Bool, not-false, or_parts}
-use Rattle.std.proofs.Math.Bool.{or-false}
-use Rattle.gm_metadata.specs.Images.{same_label}
-use Rattle.gm_commands.specs.declared.command.Command.TheVariants.{Remove, Lost}
-use Rattle.gm_state.specs.declared.records.Mirror.{Mirror}
-use Rattle.gm_state.specs.declared.records.Component.{Component}
-use Rattle.gm_lists.specs.Ordered.{Has, without_all}
-use Rattle.gm_state.specs.Records.{IsMirror, members, provider}
-use Rattle.gm_state.specs.World.{World, Sound}
-use Rattle.gm_lists.proofs.Order.{same_is, same_from, differ}
-use Rattle.gm_lists.proofs.Putting.{length-filter_le, length-filter_lt, one}
-use Rattle.gm_lists.proofs.Lists.{Has-filter}
-use Rattle.gm_lists.proofs.Finding.{none_any, some_any}
+use Rattle.gm_rules.proofs.Common.{◌≡◌, ◌≢◌, ◌∙◌, inl, inr, ⊎_elim, ℕ, ◌<◌, ◌≤◌, ◌+◌, ◌-◌, ◌||◌, Bool, true, false, not, refl, sym, ap, arith, List, [], ◌∷◌, filter, length, list_any, cases_Bool, not-false, or_parts, or-false, same_label, Remove, Lost, Mirror, Component, Has, without_all, IsMirror, members, provider, World, Sound, same_is, same_from, differ, length-filter_le, length-filter_lt, one, Has-filter, none_any, some_any, has_twice, is_on_any, one_more_loss, is_member}
 use Rattle.gm_refusals.specs.declared.refusals.Refusal.TheVariants as refusals
-use Rattle.gm_refusals.specs.Adoptable.{has_twice}
-use Rattle.gm_refusals.specs.Applies.{is_on_any}
 use Rattle.gm_changes.proofs.MakesChange.{without_all-filter}
-use Rattle.gm_refusals.proofs.NothingApplies.{one_more_loss}
 use Rattle.gm_rules.proofs.FilteredMirror.{filters_plan}
 use Rattle.gm_rules.proofs.PlanOf.{Allowed, PlanOf}
 use Rattle.gm_rules.proofs.RuledOut.{CanTouch, active_left, by_name, not_on, other_active}
-use Rattle.gm_state.proofs.FoundRecords.{is_member}
 
 -- ---- remove
 

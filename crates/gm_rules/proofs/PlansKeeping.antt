@@ -1,28 +1,12 @@
 -- The plans of deactivate, activate, forget, rebuild and configure, which keep the components of
 -- their mirror.
-use Rattle.std.proofs.Common.{◌≡◌, ◌∙◌, inl, inr, ℕ, ◌<◌, ◌≤◌, ◌+◌, ◌^◌, refl, sym, subst, arith, List, Option, Some, None, length, map, unwrap_or}
-use Rattle.std.proofs.lemmas.Bool.{cases_Bool}
-use Rattle.gm_metadata.specs.Images.{same_label}
+use Rattle.gm_rules.proofs.Common.{◌≡◌, ◌∙◌, inl, inr, ℕ, ◌<◌, ◌≤◌, ◌+◌, ◌^◌, refl, sym, subst, arith, List, Option, Some, None, length, map, unwrap_or, cases_Bool, same_label, Deactivate, Activate, Forget, Rebuild, Configure, Mirror, Component, Disk, PreferenceFits, SliceFits, Has, put_all, IsMirror, held_by, members, provider, World, differ, map_id, activated, configured, configured_mirror, deactivated, priority_by, rebuilt, one_more_sync, keeps_configured, keeps_deactivated, keeps_id, put_mapped, where_of, is_member}
 use Rattle.gm_commands.specs.declared.command.Preference.{Preference}
 use Rattle.gm_commands.specs.declared.command.Settings.{Settings}
-use Rattle.gm_commands.specs.declared.command.Command.TheVariants.{Deactivate, Activate, Forget, Rebuild, Configure}
-use Rattle.gm_state.specs.declared.records.Mirror.{Mirror}
-use Rattle.gm_state.specs.declared.records.Component.{Component}
-use Rattle.gm_state.specs.declared.records.Disk.{Disk}
-use Rattle.gm_commands.specs.Commands.{PreferenceFits, SliceFits}
-use Rattle.gm_lists.specs.Ordered.{Has, put_all}
-use Rattle.gm_state.specs.Records.{IsMirror, held_by, members, provider}
-use Rattle.gm_state.specs.World.{World}
-use Rattle.gm_lists.proofs.Order.{differ}
-use Rattle.gm_lists.proofs.Mapped.{map_id}
 use Rattle.gm_refusals.specs.declared.refusals.Refusal.TheVariants as refusals
-use Rattle.gm_changes.specs.After.{activated, configured, configured_mirror, deactivated, priority_by, rebuilt}
-use Rattle.gm_refusals.proofs.NothingApplies.{one_more_sync}
-use Rattle.gm_changes.proofs.KeptComponents.{keeps_configured, keeps_deactivated, keeps_id, put_mapped, where_of}
 use Rattle.gm_rules.proofs.MappedMirror.{Obeys, fresh_disk, obeys_freshened, obeys_still, restarts_plan, rewrites_plan}
 use Rattle.gm_rules.proofs.PlanOf.{Allowed, PlanOf}
 use Rattle.gm_rules.proofs.RuledOut.{CanTouch, by_name, component_at, in_use, other_active, other_in_use}
-use Rattle.gm_state.proofs.FoundRecords.{is_member}
 
 -- ---- activate
 

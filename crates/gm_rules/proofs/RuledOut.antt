@@ -1,31 +1,6 @@
 -- What the refusals of a command rule out.
-use Rattle.std.proofs.Common.{◌≡◌, ◌≢◌, ◌∙◌, ⊎_elim, ℕ, ◌<◌, ◌≤◌, ◌-◌, ◌==◌, ◌&&◌, Bool, true, false, not, refl, sym, ap, subst, arith, List, [], ◌∷◌, Option, Some, None, is_none, is_some, eqb-true, filter, length}
-use Rattle.std.specs.List.{list_any, list_all}
-use Rattle.std.proofs.lemmas.Bool.{ne_eqb, or_parts}
-use Rattle.gm_metadata.specs.Images.{same_label}
-use Rattle.gm_metadata.specs.Sector.{carries}
-use Rattle.gm_commands.specs.declared.command.Command.{Command}
-use Rattle.gm_state.specs.declared.records.Mirror.{Mirror}
-use Rattle.gm_state.specs.declared.records.Component.{Component}
-use Rattle.gm_state.specs.declared.records.Disk.TheVariants.{InSync, Inactive}
-use Rattle.gm_state.specs.Records.{Records, IsMirror, IsState, members, provider}
-use Rattle.gm_state.specs.Lookups.{mirror_of, component_of, is_active, is_inactive}
-use Rattle.gm_lists.specs.Ordered.{Has, put}
-use Rattle.gm_state.specs.World.{World, present}
-use Rattle.gm_state.proofs.EncodedSectors.{bears_carries}
-use Rattle.gm_state.proofs.FoundRecords.{active_is, named, new_name}
-use Rattle.gm_lists.proofs.Order.{same_is, same_from, same_refl}
-use Rattle.gm_lists.proofs.Putting.{one, put_or}
-use Rattle.gm_lists.proofs.Lists.{Has-filter, filter-Has}
-use Rattle.gm_lists.proofs.Finding.{any_one, found_none, none_any, some_other, find_one, not_both}
+use Rattle.gm_rules.proofs.Common.{◌≡◌, ◌≢◌, ◌∙◌, ⊎_elim, ℕ, ◌<◌, ◌≤◌, ◌-◌, ◌==◌, ◌&&◌, Bool, true, false, not, refl, sym, ap, subst, arith, List, [], ◌∷◌, Option, Some, None, is_none, is_some, eqb-true, filter, length, list_any, list_all, ne_eqb, or_parts, same_label, carries, Command, Mirror, Component, InSync, Inactive, Records, IsMirror, IsState, members, provider, mirror_of, component_of, is_active, is_inactive, Has, put, World, present, bears_carries, active_is, named, new_name, same_is, same_from, same_refl, one, put_or, Has-filter, filter-Has, any_one, found_none, none_any, some_other, find_one, not_both, is_listed, Seen, has_size, is_there_and, IsGood, awaited, has_wrong_size, is_awaited, is_member_of, is_on_any, looked_at, name_of, providers_of, last_carries, last_of, seen_of, fails_there, none_from, not_at, on_one, right_size, there_from, NewAreBare}
 use Rattle.gm_refusals.specs.declared.refusals.Refusal.TheVariants as refusals
-use Rattle.gm_refusals.specs.Refusals.{is_listed}
-use Rattle.gm_refusals.specs.Seen.{Seen, has_size, is_there_and}
-use Rattle.gm_refusals.specs.Applies.{IsGood, awaited, has_wrong_size, is_awaited, is_member_of, is_on_any, looked_at, name_of, providers_of}
-use Rattle.gm_refusals.specs.Facts.{last_carries}
-use Rattle.gm_refusals.specs.WorldFacts.{last_of, seen_of}
-use Rattle.gm_refusals.proofs.NothingApplies.{fails_there, none_from, not_at, on_one, right_size, there_from}
-use Rattle.gm_rules.specs.Step.{NewAreBare}
 use Rattle.gm_rules.proofs.PlanOf.{Allowed, PlanOf}
 
 pub has_size_is : (o : Option ℕ) (n : ℕ) → not (has_size o n) ≡ false → o ≡ Some n

@@ -1,50 +1,16 @@
 -- A sound world that has any state, and of which facts are as far as a command that nothing refuses
 -- asks them: so what holds of each plan holds of what is decided from a state and facts alone.
-use Rattle.std.proofs.Common.{◌≡◌, ◌≢◌, ◌∙◌, ◌⊎◌, inl, inr, ⊎_elim, ℕ, zero, suc, ◌+◌, ◌-◌, ◌<◌, ◌≤◌, ◌==◌, ◌&&◌, nat_le, Bool, true, false, not, refl, sym, ap, ap₂, subst, arith, eq-eqb, eqb-true, leb-true, leb-false, List, [], ◌∷◌, Option, Some, None, unwrap_or, if◌then◌else◌}
-use Rattle.std.specs.Prelude.{IsSomeAnd}
-use Rattle.std.specs.List.{list_any}
-use Rattle.std.specs.Str.{bytes_eq}
-use Rattle.std.proofs.lemmas.Bool.{cases_Bool, eqb-false, ne_eqb, not-false, or_parts}
-use Rattle.std.proofs.lemmas.Bool.Decides.{nat_tests}
-use Rattle.gm_metadata.specs.Images.{Sizes, agree, same_label}
-use Rattle.gm_metadata.specs.Reading.{encoded}
-use Rattle.gm_metadata.specs.declared.metadata.Metadata.{Metadata}
-use Rattle.gm_taste.specs.declared.tasted.Member.{Member}
-use Rattle.gm_commands.specs.declared.command.Command.{Command}
-use Rattle.gm_commands.specs.declared.command.Command.TheVariants.{Label, Insert, Remove, Deactivate, Activate, Forget, Rebuild, Configure, Clear, Destroy, Lost, Advance, Adopt}
+use Rattle.gm_rules.proofs.Common.{◌≡◌, ◌≢◌, ◌∙◌, ◌⊎◌, inl, inr, ⊎_elim, ℕ, zero, suc, ◌+◌, ◌-◌, ◌<◌, ◌≤◌, ◌==◌, ◌&&◌, nat_le, Bool, true, false, not, refl, sym, ap, ap₂, subst, arith, eq-eqb, eqb-true, List, [], ◌∷◌, Option, Some, None, unwrap_or, if◌then◌else◌, IsSomeAnd, list_any, bytes_eq, cases_Bool, eqb-false, ne_eqb, not-false, or_parts, nat_tests, Sizes, agree, same_label, encoded, Metadata, Member, Command, Label, Insert, Remove, Deactivate, Activate, Forget, Rebuild, Configure, Destroy, Lost, Advance, Adopt, CommandFits, Intent, Meta, Clear, Copy, Dirty, Patch, Mirror, Component, Has, put, put_all, Records, IsState, held_by, members, name, provider, mirror_of, component_of, metadata, metadata_of, IsOf, is_last, IsAtHand, World, Sound, ReplyFits, present, same_is, same_from, find_one, found_none, none_any, not_both, option_cases, some_any, put_all_or, Has-filter, filter-Has, Has-map, fact_of, size_in, last_in, equals_in, seen_in, has_size, own, is_listed, IsGood, awaited, is_awaited, is_member_of, looked_at, members_named, name_of, providers_of, source_in, data_of, has_twice, is_adoptable, adopted, adopted_mirror, last_of, seen_of, none_from, taken_name, after, intents_of, reply_to, IsItself, CanAnswer, HasPlan, answer}
+use Rattle.std.proofs.Common.{leb-true, leb-false}
+use Rattle.gm_commands.specs.declared.command.Command.TheVariants.{Clear}
 use Rattle.gm_commands.specs.declared.command.Command.TheVariants as commands
-use Rattle.gm_commands.specs.Commands.{CommandFits}
-use Rattle.gm_state.specs.declared.intents.Intent.{Intent}
-use Rattle.gm_state.specs.declared.intents.Intent.TheVariants.{Meta, Clear, Copy, Dirty, Patch}
-use Rattle.gm_state.specs.declared.records.Mirror.{Mirror}
-use Rattle.gm_state.specs.declared.records.Component.{Component}
-use Rattle.gm_lists.specs.Ordered.{Has, put, put_all}
-use Rattle.gm_state.specs.Records.{Records, IsState, held_by, members, name, provider}
-use Rattle.gm_state.specs.Lookups.{mirror_of, component_of, metadata, metadata_of}
-use Rattle.gm_state.specs.Intents.{IsOf, is_last, IsAtHand}
-use Rattle.gm_state.specs.World.{World, Sound, ReplyFits, present}
-use Rattle.gm_lists.proofs.Order.{same_is, same_from}
-use Rattle.gm_lists.proofs.Finding.{find_one, found_none, none_any, not_both, option_cases, some_any}
-use Rattle.gm_lists.proofs.PutTogether.{put_all_or}
-use Rattle.gm_lists.proofs.Lists.{Has-filter, filter-Has, Has-map}
 use Rattle.gm_state.proofs.TestsTellRules.{member}
 use Rattle.gm_refusals.specs.declared.facts.Fact.{Fact}
 use Rattle.gm_refusals.specs.declared.refusals.Refusal.{Refusal}
 use Rattle.gm_refusals.specs.declared.refusals.Refusal.TheVariants.{Absent, NameTaken, NotMember, NotAdoptable}
-use Rattle.gm_refusals.specs.Facts.{fact_of, size_in, last_in, equals_in}
-use Rattle.gm_refusals.specs.Seen.{seen_in, has_size}
-use Rattle.gm_refusals.specs.Refusals.{own, is_listed}
-use Rattle.gm_refusals.specs.Applies.{IsGood, awaited, is_awaited, is_member_of, looked_at, members_named, name_of, providers_of}
-use Rattle.gm_refusals.specs.Adoptable.{source_in, data_of, has_twice, is_adoptable, adopted, adopted_mirror}
-use Rattle.gm_refusals.specs.WorldFacts.{last_of, seen_of}
 use Rattle.gm_refusals.proofs.Listed.{listed}
-use Rattle.gm_refusals.proofs.NothingApplies.{none_from}
 use Rattle.gm_refusals.proofs.SeenAlike.{SeeAlike, same_source}
-use Rattle.gm_refusals.proofs.TakenProviders.{taken_name}
-use Rattle.gm_changes.specs.After.{after, intents_of, reply_to}
 use Rattle.gm_changes.proofs.DecidedInWorld.{AdoptAlike, AskAlike, asks_last, same_after, same_applies}
-use Rattle.gm_rules.specs.Itself.{IsItself}
-use Rattle.gm_rules.specs.Step.{CanAnswer, HasPlan, answer}
 use Rattle.gm_rules.proofs.AdoptedState.{is_adopted, roomy, size_is}
 use Rattle.gm_rules.proofs.EveryPlan.{every_plan}
 use Rattle.gm_rules.proofs.FoundMembers.{IsAdoptable, adoptable, member_found}

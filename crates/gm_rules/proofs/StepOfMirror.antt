@@ -1,30 +1,8 @@
 -- The world that a command leads to, from what it shows: it is sound, and what images claim on the
 -- way is true.
-use Rattle.std.proofs.Common.{◌≡◌, ◌≢◌, ◌∙◌, inl, inr, ⊎_elim, ℕ, ◌<◌, ◌≤◌, ◌+◌, ◌-◌, Bool, true, false, refl, sym, ap, subst, arith, eq-eqb, List, [], ◌∷◌, cond, find, Option, Some, None}
-use Rattle.std.proofs.lemmas.Bool.{cases_Bool}
-use Rattle.gm_metadata.specs.Images.{Image, Sizes, same_label, zeros}
-use Rattle.gm_metadata.specs.Reading.{encoded}
-use Rattle.gm_metadata.specs.Sector.{IsMetadata, Bears}
-use Rattle.gm_metadata.specs.declared.metadata.Metadata.{Metadata}
-use Rattle.gm_commands.specs.declared.command.Command.{Command}
-use Rattle.gm_state.specs.declared.records.Mirror.{Mirror}
-use Rattle.gm_state.specs.declared.records.Component.{Component}
-use Rattle.gm_state.specs.declared.records.Disk.{Disk}
-use Rattle.gm_state.specs.declared.records.Disk.TheVariants.{InSync, Inactive, Copying}
-use Rattle.gm_lists.specs.Ordered.{Has}
-use Rattle.gm_state.specs.Records.{IsMirror, held_by, members, name, provider}
-use Rattle.gm_state.specs.Lookups.{disk_flags, held_of, metadata, mirror_of}
-use Rattle.gm_state.specs.Intents.{IsOf, is_last}
-use Rattle.gm_state.specs.World.{World, Sound, Claims, claimed, data_at, has_syncid, Below}
-use Rattle.gm_lists.proofs.Order.{same_tells, same_from, same_is, differ}
-use Rattle.gm_lists.proofs.Putting.{one}
-use Rattle.gm_lists.proofs.Lists.{Has-filter}
-use Rattle.gm_lists.proofs.Finding.{found, find_none, find_one, option_cases, some_any}
-use Rattle.gm_state.proofs.Presence.{present_size}
-use Rattle.gm_state.proofs.SoundClaims.{claims_of, same_data}
-use Rattle.gm_state.proofs.EncodedSectors.{bears_one, bears_not_zeros}
-use Rattle.gm_changes.specs.After.{bytes_of, clears, laid_over, reply_to}
-use Rattle.gm_rules.specs.Step.{CanAnswer, answer}
+use Rattle.gm_rules.proofs.Common.{◌≡◌, ◌≢◌, ◌∙◌, inl, inr, ⊎_elim, ℕ, ◌<◌, ◌≤◌, ◌+◌, ◌-◌, Bool, true, false, refl, sym, ap, subst, arith, eq-eqb, List, [], ◌∷◌, cond, find, Option, Some, None, cases_Bool, Image, Sizes, same_label, zeros, encoded, IsMetadata, Bears, Metadata, Command, Mirror, Component, Disk, InSync, Inactive, Copying, Has, IsMirror, held_by, members, name, provider, disk_flags, metadata, mirror_of, IsOf, is_last, World, Sound, Claims, claimed, data_at, has_syncid, Below, same_tells, same_from, same_is, differ, one, Has-filter, find_none, find_one, option_cases, some_any, present_size, claims_of, same_data, bears_one, bears_not_zeros, bytes_of, clears, laid_over, reply_to, CanAnswer, answer}
+use Rattle.gm_state.specs.Lookups.{held_of}
+use Rattle.gm_lists.proofs.Finding.{found}
 use Rattle.gm_rules.proofs.OneMoreAnswer.{answers_after}
 use Rattle.gm_rules.proofs.LaidOver.{laid_elsewhere, nothing_laid}
 use Rattle.gm_rules.proofs.PlanOf.{CanFill, Fill, Nothing, Copied, Laid, PlanOf, bytes_in, with_filled, written}

@@ -1,16 +1,5 @@
 -- A mirror that a command turns: what the records after it are, and the rules that they keep.
-use Rattle.std.proofs.Common.{◌≡◌, ◌≢◌, ◌∙◌, ◌⊎◌, inl, inr, ⊎_elim, ℕ, ◌<◌, ◌≤◌, ◌^◌, refl, sym, ap, subst, List, length}
-use Rattle.gm_metadata.specs.Images.{same_label}
-use Rattle.gm_commands.specs.declared.command.Command.{Command}
-use Rattle.gm_state.specs.declared.records.Mirror.{Mirror}
-use Rattle.gm_state.specs.declared.records.Component.{Component}
-use Rattle.gm_lists.specs.Ordered.{Has, Ascends, put}
-use Rattle.gm_state.specs.Records.{Records, IsState, IsMirror, MirrorFits, members, name, provider}
-use Rattle.gm_state.specs.World.{World, Sound}
-use Rattle.gm_changes.specs.After.{laid_over}
-use Rattle.gm_lists.proofs.Order.{same_is, same_refl, same_tells}
-use Rattle.gm_lists.proofs.Putting.{one, put_there, put_stays, put_cases, Ascends-put, length-put_same}
-use Rattle.gm_lists.proofs.Lists.{Has-filter, filter-Has, Ascends-filter}
+use Rattle.gm_rules.proofs.Common.{◌≡◌, ◌≢◌, ◌∙◌, ◌⊎◌, inl, inr, ⊎_elim, ℕ, ◌<◌, ◌≤◌, ◌^◌, refl, sym, ap, subst, List, length, same_label, Command, Mirror, Component, Has, Ascends, put, Records, IsState, IsMirror, MirrorFits, members, name, provider, World, Sound, laid_over, same_is, same_refl, same_tells, one, put_there, put_stays, put_cases, Ascends-put, length-put_same, Has-filter, filter-Has, Ascends-filter}
 
 -- What a command makes of the records r: the records s, in which mirror m has the components ks.
 pub record Turns (r : Records) (m : Mirror) (ks : List Component) (s : Records) : Type 0 where

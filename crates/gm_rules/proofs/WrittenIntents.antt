@@ -1,33 +1,6 @@
 -- The intents that a command writes: what they are, and what they bring.
-use Rattle.std.proofs.Common.{◌≡◌, ◌≢◌, ◌∙◌, ◌⊎◌, inl, inr, ⊎_elim, ℕ, ◌+◌, ◌-◌, ◌<◌, ◌≤◌, ◌&&◌, true, false, refl, sym, ap, subst, arith, List, [], ◌∷◌, ◌++◌, length, filter, find, map, Option, Some, None, nat_le, nat_lt, eqb-true, eq-eqb}
-use Rattle.std.specs.Prelude.{IsSomeAnd, slice_get}
-use Rattle.std.specs.List.{list_any}
-use Rattle.std.proofs.lemmas.Bool.{cases_Bool, and_parts, le-leb, lt-ltb, ne_eqb, or_parts}
+use Rattle.gm_rules.proofs.Common.{◌≡◌, ◌≢◌, ◌∙◌, ◌⊎◌, inl, inr, ⊎_elim, ℕ, ◌+◌, ◌-◌, ◌<◌, ◌≤◌, ◌&&◌, true, false, refl, sym, ap, subst, arith, List, [], ◌∷◌, ◌++◌, length, filter, find, map, Option, Some, None, nat_le, nat_lt, eqb-true, eq-eqb, IsSomeAnd, slice_get, list_any, cases_Bool, and_parts, le-leb, lt-ltb, ne_eqb, or_parts, or-false, Image, same_label, AreSectors, Intent, Meta, Clear, Dirty, Patch, Mirror, Component, InSync, Has, Ascends, Records, held_by, members, provider, mirror_of, is_active, IsOf, is_last, is_meta_of, any_copies, copies, is_place, IsAtHand, is_copy, is_patch, is_fill_of, IsCopyWithin, IsPatchWithin, IsOfRange, AreOrdered, AreOrderedFrom, AreOfOnePatch, World, Below, present, active_is, without_patch, copied_at, place_from, present_size, some_and, mirror_found, metas, same_is, same_from, same_refl, same_tells, differ, one, Has-filter, Has-map, map-Has, filter-Has, Ascends-filter, any_from, any_none, some_any, found_none, not_both, Has-append_left, Has-append_right}
 use Rattle.std.proofs.lemmas.Option.{slice_get-get_or}
-use Rattle.std.proofs.Math.Bool.{or-false}
-use Rattle.gm_metadata.specs.Images.{Image, same_label}
-use Rattle.gm_commands.specs.Sectors.{AreSectors}
-use Rattle.gm_state.specs.declared.intents.Intent.{Intent}
-use Rattle.gm_state.specs.declared.intents.Intent.TheVariants.{Meta, Clear, Dirty, Patch}
-use Rattle.gm_state.specs.declared.records.Mirror.{Mirror}
-use Rattle.gm_state.specs.declared.records.Component.{Component}
-use Rattle.gm_state.specs.declared.records.Disk.TheVariants.{InSync}
-use Rattle.gm_lists.specs.Ordered.{Has, Ascends}
-use Rattle.gm_state.specs.Records.{Records, held_by, members, provider}
-use Rattle.gm_state.specs.Lookups.{mirror_of, is_active}
-use Rattle.gm_state.specs.Intents.{IsOf, is_last, is_meta_of, any_copies, copies, is_place, IsAtHand}
-use Rattle.gm_state.specs.Readable.{is_copy, is_patch, is_fill_of, IsCopyWithin, IsPatchWithin, IsOfRange, AreOrdered, AreOrderedFrom, AreOfOnePatch}
-use Rattle.gm_state.specs.World.{World, Below, present}
-use Rattle.gm_state.proofs.FoundRecords.{active_is}
-use Rattle.gm_state.proofs.PatchFound.{without_patch}
-use Rattle.gm_state.proofs.Places.{copied_at, place_from}
-use Rattle.gm_state.proofs.Presence.{present_size, some_and}
-use Rattle.gm_state.proofs.SoundClaims.{mirror_found}
-use Rattle.gm_changes.specs.After.{metas}
-use Rattle.gm_lists.proofs.Order.{same_is, same_from, same_refl, same_tells, differ}
-use Rattle.gm_lists.proofs.Putting.{one}
-use Rattle.gm_lists.proofs.Lists.{Has-filter, Has-map, map-Has, filter-Has, Ascends-filter}
-use Rattle.gm_lists.proofs.Finding.{any_from, any_none, some_any, found_none, not_both, Has-append_left, Has-append_right}
 use Rattle.gm_rules.proofs.LaidIntents.{patchings, each_laid, laid_there, no_copy, copies_none, laid_ordered}
 use Rattle.gm_rules.proofs.PlanOf.{Fill, Nothing, Copied, Laid, Stretch, IsLent, IsLaid, CanFill, bytes_in, clears_then, copying, is_filled, with_filled, written}
 use Rattle.gm_rules.proofs.TurnedMirror.{Turns, in_order, in_s, here, rules_of}

@@ -1,17 +1,6 @@
 -- The newest contents follow the history.
-use Rattle.std.proofs.Common.{◌≡◌, ◌∙◌, ◌≤◌, inl, inr, ℕ, List, [], ◌∷◌, true, false, cond, Option, Some, refl, ap, arith, Vec, vec_len, length}
-use Rattle.std.specs.declared.alloc.Global.{Global}
-use Rattle.std.specs.Option.{option_map}
-use Rattle.std.specs.Ordering.{nat_cmp}
-use Rattle.std.specs.Cmp.Lexicographic.{slice_cmp}
-use Rattle.std.specs.BTreeMap.{get, is_at}
-use Rattle.std.proofs.lemmas.List.{get_or_past}
-use Rattle.gm_metadata.specs.declared.label.Label.{Label}
-use Rattle.gm_metadata.specs.Images.{label_tells}
-use Rattle.gm_shelf.specs.History.{sector_at}
-use Rattle.gm_shelf.specs.Cache.{Disks, IsCache, sector_of}
-use Rattle.gm_shelf.specs.declared.history.Event.{Event}
-use Rattle.gm_shelf.specs.declared.history.Event.TheVariants.{Added}
+use Rattle.gm_shelf.proofs.Common.{◌≡◌, ◌∙◌, ◌≤◌, inl, inr, ℕ, List, [], ◌∷◌, true, false, cond, Option, Some, refl, ap, arith, Vec, vec_len, length, Global, option_map, nat_cmp, slice_cmp, get, is_at, get_or_past, Label, label_tells, sector_at, Disks, IsCache, Event, Added}
+use Rattle.gm_shelf.specs.Cache.{sector_of}
 use Rattle.gm_shelf.proofs.OneSector.{key_tells}
 
 -- there is nothing after the last sector

@@ -1,20 +1,5 @@
 -- Each image that a crash may leave is named by some picks.
-use Rattle.std.proofs.Common.{◌≡◌, ◌∙◌, ◌<◌, ◌≤◌, ◌+◌, ◌^◌, ◌++◌, ◌⊎◌, ⊎_elim, inl, inr, ℕ, zero, suc, List, [], ◌∷◌, Bool, true, false, Option, Some, None, if◌then◌else◌, min, nat_lt, refl, sym, ap, subst, arith, length, get_or, take, add-one, true≢false}
-use Rattle.std.specs.Prelude.{IsSomeAnd, Contains, All, unwrap_or}
-use Rattle.std.proofs.Math.ListN.{get_or-append}
-use Rattle.std.proofs.Math.Seq.{get_or-append_seam}
-use Rattle.std.proofs.lemmas.List.{get_or_default, length-append, get_or-append-add}
-use Rattle.std.proofs.lemmas.List.Elements.{All-append, All-nil}
-use Rattle.std.proofs.lemmas.List.Sums.{sum_by_more}
-use Rattle.std.proofs.lemmas.Bool.{cases_lt}
-use Rattle.std.proofs.lemmas.Bool.Decides.{nat_tests}
-use Rattle.gm_metadata.specs.declared.label.Label.{Label}
-use Rattle.gm_metadata.specs.Images.{Image}
-use Rattle.gm_shelf.specs.Disk.{AreNames}
-use Rattle.gm_shelf.specs.Cache.{Disks, IsCache}
-use Rattle.gm_shelf.specs.History.{size_after, synced_after, written_after, may_leave_after}
-use Rattle.gm_shelf.specs.Picks.{picked_value, pick_at, is_unsynced, unsynced_below, unsynced_of, picked_after, IsPicked}
-use Rattle.gm_shelf.specs.declared.history.Event.{Event}
+use Rattle.gm_shelf.proofs.Common.{◌≡◌, ◌∙◌, ◌<◌, ◌≤◌, ◌+◌, ◌^◌, ◌++◌, ◌⊎◌, ⊎_elim, inl, inr, ℕ, zero, suc, List, [], ◌∷◌, Bool, true, false, Option, Some, None, if◌then◌else◌, min, nat_lt, refl, sym, ap, subst, arith, length, get_or, take, add-one, true≢false, IsSomeAnd, Contains, All, unwrap_or, get_or-append, get_or-append_seam, get_or_default, length-append, get_or-append-add, All-append, All-nil, sum_by_more, cases_lt, nat_tests, Label, Image, AreNames, Disks, IsCache, size_after, synced_after, written_after, may_leave_after, picked_value, pick_at, is_unsynced, unsynced_below, unsynced_of, picked_after, IsPicked, Event}
 use Rattle.gm_shelf.proofs.SoFar.{name_at}
 use Rattle.gm_shelf.proofs.NothingWritten.{picked_none}
 

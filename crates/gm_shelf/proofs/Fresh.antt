@@ -1,11 +1,5 @@
 -- A history of providers that were added, with nothing written.
-use Rattle.std.proofs.Common.{◌≡◌, ◌∙◌, inl, inr, ⊎_elim, arith, subst, ℕ, List, [], ◌∷◌, refl}
-use Rattle.std.specs.Prelude.{Contains}
-use Rattle.gm_metadata.specs.declared.label.Label.{Label}
-use Rattle.gm_metadata.specs.Images.{Image, Same, label_tells}
-use Rattle.gm_shelf.specs.History.{seen_after, synced_after, written_after, may_leave_after}
-use Rattle.gm_shelf.specs.declared.history.Event.{Event}
-use Rattle.gm_shelf.specs.declared.history.Event.TheVariants.{Added, Wrote, Synced}
+use Rattle.gm_shelf.proofs.Common.{◌≡◌, ◌∙◌, inl, inr, ⊎_elim, arith, subst, ℕ, List, [], ◌∷◌, refl, Contains, Label, Image, Same, label_tells, seen_after, synced_after, written_after, may_leave_after, Event, Added, Wrote, Synced}
 
 -- providers came, and nothing else was done
 abbrev pub IsFresh : List Event → Type 0

@@ -1,7 +1,5 @@
 -- Calls one after another, of which some are reads or syncs.
-use Rattle.std.proofs.Common.{◌∙◌, ◌⊎◌, ◌≤◌, inl, inr, ⊎_elim, ℕ, refl, arith}
-use Rattle.gm_metadata.specs.Images.{Image}
-use Rattle.gm_shelf.specs.Disk.{View, Elapses, IsQuiet, AreReads, IsLawful}
+use Rattle.gm_shelf.proofs.Common.{◌∙◌, ◌⊎◌, ◌≤◌, inl, inr, ⊎_elim, ℕ, refl, arith, Image, View, Elapses, IsQuiet, AreReads, IsLawful}
 
 -- nothing is done
 pub elapses_itself : (v : View) → Elapses v v

@@ -1,7 +1,5 @@
 -- Calls in turn keep a shelf.
-use Rattle.std.proofs.Common.{◌∙◌, arith}
-use Rattle.gm_shelf.specs.Keeping.{Keeps, ReadsOnly}
-use Rattle.gm_shelf.specs.declared.shelf.Shelf.{Ghosts}
+use Rattle.gm_shelf.proofs.Common.{◌∙◌, arith, Keeps, ReadsOnly, Ghosts}
 use Rattle.gm_shelf.proofs.InTurn.{reads_then}
 
 module _ {H : Type 0} (g : Ghosts H) (old mid new : H) where

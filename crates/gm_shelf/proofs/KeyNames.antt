@@ -1,15 +1,7 @@
 -- The keys of a map by labels are the names of the providers that it has sizes of.
-use Rattle.std.proofs.Common.{◌≡◌, ◌∙◌, ℕ, List, Option, Some, None, refl, sym}
-use Rattle.std.specs.Prelude.{is_some}
+use Rattle.gm_shelf.proofs.Common.{◌≡◌, ◌∙◌, ℕ, List, Option, Some, None, refl, sym, is_some, option_map, nat_cmp, eq_by_cmp, slice_cmp, texts_ties, is_member, is_member-Decides, Sizes, AreNames, IsAscending}
 use Rattle.std.specs.Bool.{Decides}
-use Rattle.std.specs.Option.{option_map}
-use Rattle.std.specs.Ordering.{nat_cmp, eq_by_cmp}
-use Rattle.std.specs.Cmp.Lexicographic.{slice_cmp, texts_ties}
-use Rattle.std.specs.Set.{is_member}
-use Rattle.std.proofs.lemmas.Map.Made.{is_member-Decides}
 use Rattle.std.proofs.lemmas.Slice.Eq.{bytes_eq-Decides}
-use Rattle.gm_metadata.specs.Images.{Sizes}
-use Rattle.gm_shelf.specs.Disk.{AreNames, IsAscending}
 
 -- labels tie only if they are one
 pub same_key : (a b : List ℕ) → Decides (eq_by_cmp (slice_cmp nat_cmp) a b) (a ≡ b)

@@ -1,10 +1,6 @@
 -- The last sector of a provider that is read, by how many it has.
-use Rattle.std.proofs.Common.{◌≡◌, ◌==◌, ◌-◌, ◌<◌, inl, inr, ℕ, List, Some, refl, arith}
+use Rattle.gm_shelf.proofs.Common.{◌≡◌, ◌==◌, ◌-◌, ◌<◌, inl, inr, ℕ, List, Some, refl, arith, cases_Bool, nat_tests, Image, Sizes, zeros, last_of, last_sector}
 use Rattle.std.specs.Option.{unwrap_or}
-use Rattle.std.proofs.lemmas.Bool.{cases_Bool}
-use Rattle.std.proofs.lemmas.Bool.Decides.{nat_tests}
-use Rattle.gm_metadata.specs.Images.{Image, Sizes, zeros}
-use Rattle.gm_shelf.specs.LastSector.{last_of, last_sector}
 
 module _ (size : Sizes) (seen : Image) (p : List ℕ) (n : ℕ) (is : size p ≡ Some n) where
   -- zeros are that of a provider without sectors

@@ -1,10 +1,5 @@
 -- A write of one sector and a sync after it.
-use Rattle.std.proofs.Common.{◌≡◌, ◌∙◌, inl, inr, ⊎_elim, ℕ, List, refl, sym}
-use Rattle.std.proofs.lemmas.Bool.Decides.{eqb_tells}
-use Rattle.gm_metadata.specs.declared.label.Label.{Label}
-use Rattle.gm_metadata.specs.Images.{Image, Same, put, label_tells, label_refl}
-use Rattle.gm_shelf.specs.Disk.{View, IsPut, Torn, IsQuiet, IsWrite, IsFixed}
-use Rattle.gm_shelf.specs.LastSector.{IsDone}
+use Rattle.gm_shelf.proofs.Common.{◌≡◌, ◌∙◌, inl, inr, ⊎_elim, ℕ, List, refl, sym, eqb_tells, Label, Image, Same, put, label_tells, label_refl, View, IsPut, Torn, IsQuiet, IsWrite, IsFixed, IsDone}
 
 -- an image that was torn at the sector and is fixed has the new value there
 fixed_torn : (p : Label) (i : ℕ) (s : List ℕ) (d x seen : Image) → Torn p i s d x

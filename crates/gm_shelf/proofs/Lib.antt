@@ -1,4 +1,5 @@
 pub mod CachedContents
+pub mod Common
 pub mod EachPicked
 pub mod Fresh
 pub mod InTurn

@@ -1,6 +1,5 @@
 -- What a pick names if nothing was written.
-use Rattle.std.proofs.Common.{◌≡◌, ℕ, List, [], min, refl, arith}
-use Rattle.gm_shelf.specs.Picks.{picked_value}
+use Rattle.gm_shelf.proofs.Common.{◌≡◌, ℕ, List, [], min, refl, arith, picked_value}
 
 -- with nothing written, any pick names the synced value
 pub picked_none : (s : List ℕ) (pick : ℕ) → picked_value s [] pick ≡ s

@@ -1,14 +1,5 @@
 -- One sector more with its pick, and one provider more.
-use Rattle.std.proofs.Common.{◌≡◌, ◌∙◌, ◌<◌, ◌≤◌, ◌≢◌, ◌+◌, ◌++◌, ◌⊎◌, inl, inr, ℕ, List, [], ◌∷◌, Bool, if◌then◌else◌, min, refl, sym, ap, subst, arith, length, add-one}
-use Rattle.std.proofs.Math.ListN.{get_or-append}
-use Rattle.std.proofs.Math.Seq.{get_or-append_seam}
-use Rattle.std.proofs.lemmas.List.{get_or_past}
-use Rattle.std.proofs.lemmas.Bool.{cases_lt}
-use Rattle.std.proofs.lemmas.Bool.Decides.{eqb_tells}
-use Rattle.gm_metadata.specs.declared.label.Label.{Label}
-use Rattle.gm_shelf.specs.History.{sector_at}
-use Rattle.gm_shelf.specs.Picks.{pick_at, is_unsynced, unsynced_below}
-use Rattle.gm_shelf.specs.declared.history.Event.{Event}
+use Rattle.gm_shelf.proofs.Common.{◌≡◌, ◌∙◌, ◌<◌, ◌≤◌, ◌≢◌, ◌+◌, ◌++◌, ◌⊎◌, inl, inr, ℕ, List, [], ◌∷◌, Bool, if◌then◌else◌, min, refl, sym, ap, subst, arith, length, add-one, get_or-append, get_or-append_seam, get_or_past, cases_lt, eqb_tells, Label, sector_at, pick_at, is_unsynced, unsynced_below, Event}
 
 -- a pick at the end of those that are there is a missing one
 pub pick_at_taken : (pick : List ℕ) (n : ℕ) → pick_at pick (min n (length pick)) ≡ pick_at pick n

@@ -1,16 +1,7 @@
 -- One sector of the disks that is changed in place.
-use Rattle.std.proofs.Common.{◌≡◌, ◌∙◌, ◌⊎◌, ◌<◌, ◌≢◌, inl, inr, ℕ, List, [], true, false, cond, Option, Some, ◌==◌, if◌then◌else◌, refl, sym, ap, Vec, vec_len, length, get_or, get_or-set_same, get_or-set_other}
-use Rattle.std.proofs.Math.ListN.{set}
-use Rattle.std.specs.declared.alloc.Global.{Global}
-use Rattle.std.specs.Option.{option_map}
-use Rattle.std.specs.Ordering.{nat_cmp}
-use Rattle.std.specs.Cmp.Lexicographic.{slice_cmp}
-use Rattle.std.specs.BTreeMap.{get, is_at}
-use Rattle.std.proofs.lemmas.Bool.Decides.{eqb_tells}
+use Rattle.gm_shelf.proofs.Common.{◌≡◌, ◌∙◌, ◌⊎◌, ◌<◌, ◌≢◌, inl, inr, ℕ, List, [], true, false, cond, Option, Some, ◌==◌, if◌then◌else◌, refl, sym, ap, Vec, vec_len, length, get_or, get_or-set_same, get_or-set_other, set, Global, option_map, nat_cmp, slice_cmp, get, is_at, eqb_tells, Label, put, same_label, label_tells, label_refl, Disks, size_in, held_in}
 use Rattle.std.proofs.lemmas.Map.Text.{is_eq-slice_cmp}
-use Rattle.gm_metadata.specs.declared.label.Label.{Label}
-use Rattle.gm_metadata.specs.Images.{put, same_label, label_tells, label_refl}
-use Rattle.gm_shelf.specs.Cache.{Disks, size_in, sector_of, held_in}
+use Rattle.gm_shelf.specs.Cache.{sector_of}
 
 not_same : (p q : Label) → p ≢ q → same_label q p ≡ false
 not_same p q apart =

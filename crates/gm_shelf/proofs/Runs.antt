@@ -1,10 +1,6 @@
 -- A run of sectors, written one after another.
-use Rattle.std.proofs.Common.{◌≡◌, ◌∙◌, ◌<◌, ◌+◌, ◌-◌, ◌&&◌, ◌||◌, ◌==◌, inl, inr, ⊎_elim, ℕ, List, refl, arith, length, nat_le, nat_lt, eqb-true, if◌then◌else◌}
-use Rattle.std.proofs.lemmas.Bool.{cases_Bool}
-use Rattle.std.proofs.lemmas.Bool.Decides.{nat_tests}
-use Rattle.gm_metadata.specs.declared.label.Label.{Label}
-use Rattle.gm_metadata.specs.Images.{Image, Same, put, same_label}
-use Rattle.gm_shelf.specs.Disk.{View, IsPut, Torn, From, IsWrite, sector_of, IsPutByRun, TornRun, IsRunWrite}
+use Rattle.gm_shelf.proofs.Common.{◌≡◌, ◌∙◌, ◌<◌, ◌+◌, ◌-◌, ◌&&◌, ◌||◌, ◌==◌, inl, inr, ⊎_elim, ℕ, List, refl, arith, length, nat_le, nat_lt, eqb-true, if◌then◌else◌, cases_Bool, nat_tests, Label, Image, Same, put, same_label, View, IsPut, Torn, From, IsWrite, IsPutByRun, TornRun, IsRunWrite}
+use Rattle.gm_shelf.specs.Disk.{sector_of}
 
 module _ (p : Label) (first : ℕ) (run : List (List ℕ)) where
   torn_more : (d x y : Image) (k : ℕ) → k < length run → TornRun p first run d x

@@ -1,23 +1,6 @@
 -- The image of a crash on the way, provider by provider.
-use Rattle.std.proofs.Common.{◌≡◌, ◌∙◌, ◌<◌, ◌≤◌, ◌≢◌, ◌+◌, ◌⊎◌, ⊎_elim, inl, inr, ℕ, zero, suc, List, [], ◌∷◌, true, false, Option, Some, None, min, refl, sym, ap, subst, arith, length, get_or, take, Vec, vec_len, is_some, IsSome}
-use Rattle.std.specs.Prelude.{IsSomeAnd, Contains, unwrap_or}
-use Rattle.std.specs.declared.alloc.Global.{Global}
-use Rattle.std.specs.Ordering.{nat_cmp, eq_by_cmp}
-use Rattle.std.specs.Cmp.Lexicographic.{slice_cmp}
-use Rattle.std.proofs.lemmas.List.{get_or_default}
-use Rattle.std.proofs.lemmas.List.Elements.{Contains-get_or}
-use Rattle.std.proofs.lemmas.List.Sums.{sum_by_more}
-use Rattle.std.proofs.lemmas.Bool.{cases_lt}
-use Rattle.std.proofs.lemmas.Bool.Decides.{not_from_Decides}
+use Rattle.gm_shelf.proofs.Common.{◌≡◌, ◌∙◌, ◌<◌, ◌≤◌, ◌≢◌, ◌+◌, ◌⊎◌, ⊎_elim, inl, inr, ℕ, zero, suc, List, [], ◌∷◌, true, false, Option, Some, None, min, refl, sym, ap, subst, arith, length, get_or, take, Vec, vec_len, is_some, IsSome, IsSomeAnd, Contains, unwrap_or, Global, nat_cmp, eq_by_cmp, slice_cmp, get_or_default, Contains-get_or, sum_by_more, cases_lt, not_from_Decides, Label, label_tells, same_label, AreNames, IsAscending, Disks, IsCache, IsOutside, sector_at, size_after, seen_after, synced_after, written_after, may_leave_after, unsynced_below, unsynced_of, picked_after, IsPicked, Event, Added}
 use Rattle.std.proofs.lemmas.Map.Keys.{apart_from_distinct, IsDistinct-from_sorted}
-use Rattle.gm_metadata.specs.declared.label.Label.{Label}
-use Rattle.gm_metadata.specs.Images.{label_tells, same_label}
-use Rattle.gm_shelf.specs.Disk.{AreNames, IsAscending}
-use Rattle.gm_shelf.specs.Cache.{Disks, IsCache, IsOutside}
-use Rattle.gm_shelf.specs.History.{sector_at, size_after, seen_after, synced_after, written_after, may_leave_after}
-use Rattle.gm_shelf.specs.Picks.{unsynced_below, unsynced_of, picked_after, IsPicked}
-use Rattle.gm_shelf.specs.declared.history.Event.{Event}
-use Rattle.gm_shelf.specs.declared.history.Event.TheVariants.{Added}
 use Rattle.gm_shelf.proofs.Fresh.{IsFresh}
 use Rattle.gm_shelf.proofs.KeyNames.{same_key}
 

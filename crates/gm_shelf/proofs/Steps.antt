@@ -1,17 +1,6 @@
 -- What a write or a sync in the history does to the view.
-use Rattle.std.proofs.Common.{◌≡◌, ◌⊎◌, inl, inr, ⊎_elim, ℕ, List, [], ◌∷◌, ◌++◌, refl, sym, subst, arith, reverse}
-use Rattle.std.specs.Prelude.{Contains}
-use Rattle.std.proofs.lemmas.Bool.Decides.{eqb_tells}
-use Rattle.std.proofs.lemmas.List.{reverse-append}
-use Rattle.std.proofs.lemmas.List.Elements.{Contains-push_cases}
-use Rattle.gm_metadata.specs.declared.label.Label.{Label}
-use Rattle.gm_metadata.specs.Images.{Image, label_tells, label_refl}
-use Rattle.gm_shelf.specs.Disk.{IsPut, Elapses, IsQuiet, IsWrite, IsFixed}
-use Rattle.gm_shelf.specs.History.{seen_after, synced_after, written_after, may_leave_after, view_after}
-use Rattle.gm_shelf.specs.Lawful.{MayHold, put_tells, holds_seen}
-use Rattle.gm_shelf.specs.declared.history.Event.{Event}
+use Rattle.gm_shelf.proofs.Common.{◌≡◌, ◌⊎◌, inl, inr, ⊎_elim, ℕ, List, [], ◌∷◌, ◌++◌, refl, sym, subst, arith, reverse, Contains, eqb_tells, reverse-append, Contains-push_cases, Label, Image, label_tells, label_refl, IsPut, Elapses, IsQuiet, IsWrite, IsFixed, seen_after, synced_after, written_after, may_leave_after, view_after, MayHold, put_tells, holds_seen, Event, Wrote, Synced}
 use Rattle.gm_shelf.proofs.InTurn.{elapses_itself}
-use Rattle.gm_shelf.specs.declared.history.Event.TheVariants.{Wrote, Synced}
 
 elapses : (event : Event) (older : List Event)
     → Elapses (view_after older) (view_after (event ∷ older))

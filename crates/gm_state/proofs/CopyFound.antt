@@ -1,18 +1,6 @@
 -- The components of a copy are found by their names.
-use Rattle.std.proofs.Common.{◌≡◌, ◌≢◌, ◌∙◌, ℕ, ◌≤◌, List, sym, ap, subst, Some, None}
-use Rattle.gm_metadata.specs.Images.{same_label}
-use Rattle.gm_state.specs.declared.records.Mirror.{Mirror}
-use Rattle.gm_state.specs.declared.records.Component.{Component}
-use Rattle.gm_state.specs.declared.records.Disk.TheVariants.{InSync}
-use Rattle.gm_lists.specs.Ordered.{Has}
-use Rattle.gm_state.specs.Records.{Records, IsState, name, provider}
-use Rattle.gm_state.specs.Lookups.{component_of, mirror_of}
-use Rattle.gm_state.specs.Intents.{IsOf}
-use Rattle.gm_lists.proofs.Order.{same_from, same_is}
-use Rattle.gm_lists.proofs.Lists.{Has-filter, filter-Has}
-use Rattle.gm_lists.proofs.Finding.{found, find_one}
+use Rattle.gm_state.proofs.Common.{◌≡◌, ◌≢◌, ◌∙◌, ℕ, ◌≤◌, List, sym, ap, subst, Some, None, same_label, Mirror, Component, InSync, Has, Records, IsState, name, provider, component_of, mirror_of, IsOf, same_from, same_is, Has-filter, filter-Has, found, find_one, IsCopyWithin}
 use Rattle.gm_state.proofs.FoundRecords.{named}
-use Rattle.gm_state.specs.Readable.{IsCopyWithin}
 
 module _ (s : Records) where
   pub member_is : (m : Mirror) (k : Component) → IsOf s m k

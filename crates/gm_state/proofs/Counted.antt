@@ -1,8 +1,6 @@
 -- How many of those that pass one test pass another.
-use Rattle.std.proofs.Common.{◌≡◌, ◌∙◌, ◌&&◌, inl, inr, Bool, cond, List, [], ◌∷◌, filter, length, refl, ap, sym}
-use Rattle.std.proofs.lemmas.Bool.{cases_Bool}
+use Rattle.gm_state.proofs.Common.{◌≡◌, ◌∙◌, ◌&&◌, inl, inr, Bool, cond, List, [], ◌∷◌, filter, length, refl, ap, sym, cases_Bool, count_by}
 use Rattle.std.proofs.lemmas.List.Sums.{length-filter}
-use Rattle.std.specs.List.{count_by}
 
 filter_both : {X : Type 0} (q p : X → Bool) (xs : List X)
     → filter (λ x. q x && p x) xs ≡ filter p (filter q xs)

@@ -1,21 +1,13 @@
 -- What an encoded sector bears: its metadata and no other; and zeros bear nothing.
-use Rattle.std.proofs.Common.{◌≡◌, ◌∙◌, ℕ, Bool, true, false, IsTrue, ◌+◌, ◌<◌, ◌≤◌, ◌^◌, arith, if◌then◌else◌, refl, sym, ap, subst, List, length, take, true≢false, Some, None, lit≤}
-use Rattle.std.specs.Prelude.{IfSome}
+use Rattle.gm_state.proofs.Common.{◌≡◌, ◌∙◌, ℕ, Bool, true, false, IsTrue, ◌+◌, ◌<◌, ◌≤◌, ◌^◌, arith, if◌then◌else◌, refl, sym, ap, subst, List, length, take, true≢false, Some, None, lit≤, IfSome, zeros, is_label, encoded, IsMetadata, Bears, BearsIn, carries, Mirror, Component, IsOf, IsDirt, metadata, with_dirty, Records, IsState, IsMirror, members}
 use Rattle.std.proofs.lemmas.Slice.Eq.{bytes_eq-Decides}
-use Rattle.gm_metadata.specs.Images.{zeros}
-use Rattle.gm_metadata.specs.Labels.{is_label}
-use Rattle.gm_metadata.specs.Reading.{encoded}
-use Rattle.gm_metadata.specs.Sector.{IsMetadata, Bears, BearsIn, magic, carries}
+use Rattle.gm_metadata.specs.Sector.{magic}
 use Rattle.gm_metadata.specs.declared.metadata.Metadata.{Metadata}
 use Rattle.gm_metadata.specs.declared.version.Version.TheVariants.{Four}
 use Rattle.gm_metadata.proofs.Laid.{named, encoded_is_full, length-encoded}
 use Rattle.gm_metadata.proofs.Numbers.{front_of_front}
 use Rattle.gm_metadata.proofs.Read.{before_hash, read_once}
-use Rattle.gm_state.specs.declared.records.Mirror.{Mirror}
-use Rattle.gm_state.specs.declared.records.Component.{Component}
-use Rattle.gm_state.specs.Intents.{IsOf, IsDirt}
-use Rattle.gm_state.specs.Lookups.{metadata, with_dirty, held_of}
-use Rattle.gm_state.specs.Records.{Records, IsState, IsMirror, members}
+use Rattle.gm_state.specs.Lookups.{held_of}
 
 provider_fits : (h : Bool) (p : List ℕ) → IsTrue (is_label p)
     → IfSome (if h then Some p else None) (λ n. IsTrue (is_label n))

@@ -1,19 +1,5 @@
 -- The example is sound, and the others aren't.
-use Rattle.std.proofs.Common.{◌≡◌, ◌∙◌, ◌⊎◌, inl, inr, ⊎_elim, codes, Some, None, is_some, ℕ, ◌<◌, ◌-◌, ◌==◌, true, false, refl, sym, ap, subst, arith, List, [], ◌∷◌, length, true≢false}
-use Rattle.std.proofs.lemmas.Bool.{ne_eqb}
-use Rattle.std.proofs.lemmas.List.Sorted.{IsPermutation-refl, length_permutation}
-use Rattle.gm_metadata.specs.Images.{SameThere, label_tells}
-use Rattle.gm_metadata.specs.Reading.{encoded}
-use Rattle.gm_state.specs.declared.records.Mirror.{Mirror}
-use Rattle.gm_state.specs.declared.records.Component.{Component}
-use Rattle.gm_lists.specs.Ordered.{Has}
-use Rattle.gm_state.specs.Records.{members, held_by}
-use Rattle.gm_state.specs.Lookups.{metadata}
-use Rattle.gm_state.specs.Intents.{IsOf}
-use Rattle.gm_state.specs.World.{Answered, AnswerFits, Sound, Below, present}
-use Rattle.gm_state.specs.Rows.{AreRows}
-use Rattle.gm_state.specs.Examples.{gm0, a_img, b_img, records, data_of_gm0, sector_of_a, sector_of_b, cleared, example, without_b, shown_without_b, resized, crowded, misnumbered, unmarked, lacking, overclaiming, example_tables, short_tables, pending_tables}
-use Rattle.gm_commands.proofs.OneCommand.{apart}
+use Rattle.gm_state.proofs.Common.{◌≡◌, ◌∙◌, ◌⊎◌, inl, inr, ⊎_elim, codes, Some, None, is_some, ℕ, ◌<◌, ◌-◌, ◌==◌, true, false, refl, sym, ap, subst, arith, List, [], ◌∷◌, length, true≢false, ne_eqb, IsPermutation-refl, length_permutation, SameThere, label_tells, encoded, Mirror, Component, Has, members, held_by, metadata, IsOf, Answered, AnswerFits, Sound, Below, present, AreRows, gm0, a_img, b_img, records, data_of_gm0, sector_of_a, sector_of_b, cleared, example, without_b, shown_without_b, resized, crowded, misnumbered, unmarked, lacking, overclaiming, example_tables, short_tables, pending_tables, apart}
 use Rattle.gm_state.proofs.TestsTellRules.{is_state_tells, is_state_from}
 
 -- what holds of a.img and b.img holds of each component

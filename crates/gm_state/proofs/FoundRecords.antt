@@ -1,19 +1,5 @@
 -- What is found in the records by its name, and the rules that hold of it.
-use Rattle.std.proofs.Common.{[], ◌≡◌, ℕ, ◌≤◌, ◌<◌, false, subst, arith, List, ◌∷◌, Some, None, length, ◌∙◌, inl, inr, true, not, refl, sym, ap, IsSome}
-use Rattle.gm_lists.specs.Ordered.{Has}
-use Rattle.gm_state.specs.Records.{Records, IsState, IsMirror, members, provider}
-use Rattle.gm_state.specs.Lookups.{mirror_of, component_of, is_active}
-use Rattle.gm_state.specs.declared.records.Mirror.{Mirror}
-use Rattle.gm_state.specs.declared.records.Component.{Component}
-use Rattle.gm_lists.proofs.Order.{same_is, same_from}
-use Rattle.gm_metadata.specs.Images.{same_label}
-use Rattle.gm_lists.proofs.Finding.{found, found_none, any_one, some_any, not_both, option_cases}
-use Rattle.std.specs.List.{list_any}
-use Rattle.std.proofs.lemmas.Bool.{not-false}
-use Rattle.gm_state.specs.declared.records.Disk.{Disk}
-use Rattle.gm_state.specs.declared.records.Disk.TheVariants.{InSync, Inactive, Copying}
-use Rattle.gm_lists.proofs.Putting.{one}
-use Rattle.gm_lists.proofs.Lists.{Has-filter}
+use Rattle.gm_state.proofs.Common.{[], ◌≡◌, ℕ, ◌≤◌, ◌<◌, false, subst, arith, List, ◌∷◌, Some, None, length, ◌∙◌, inl, inr, true, not, refl, sym, ap, IsSome, Has, Records, IsState, IsMirror, members, provider, mirror_of, component_of, is_active, Mirror, Component, same_is, same_from, same_label, found, found_none, any_one, some_any, not_both, option_cases, list_any, not-false, Disk, InSync, Inactive, Copying, one, Has-filter}
 
 -- the mirror that is found has the name
 pub named : (s : Records) (n : List ℕ) (m : Mirror) → mirror_of s n ≡ Some m

@@ -1,17 +1,5 @@
 -- What is found is the source.
-use Rattle.std.proofs.Common.{◌≡◌, ◌⊎◌, ◌∙◌, inl, inr, ⊎_elim, ℕ, ◌<◌, ◌≤◌, ◌&&◌, Bool, not, nat_lt, true, false, refl, sym, ap, subst, arith, List, [], ◌∷◌, Option, Some, None, eq-eqb, ltb-true, ltb-false, option_map}
-use Rattle.std.specs.List.{list_any}
-use Rattle.gm_metadata.specs.Images.{same_label}
-use Rattle.std.proofs.lemmas.Bool.{cases_Bool, cases_order, and_parts, lt-ltb, le-ltb, ne_eqb, not-true}
-use Rattle.gm_state.specs.declared.records.Component.{Component}
-use Rattle.gm_lists.specs.Ordered.{Has, Ascends, label_lt}
-use Rattle.gm_state.specs.Records.{Records, IsState, members, provider}
-use Rattle.gm_state.specs.Lookups.{component_of, is_active}
-use Rattle.gm_state.specs.Sources.{lends_to, goes_first, source_among, source_of, GoesFirst, IsBest, IsSource}
-use Rattle.gm_state.specs.BestSource.{better, best_of}
-use Rattle.gm_lists.proofs.Order.{lt_asym, lt_irrefl}
-use Rattle.gm_lists.proofs.Finding.{any_from, any_none, find_none, find_only, not_both, option_cases}
-use Rattle.gm_lists.proofs.Lists.{Has-filter, filter-Has}
+use Rattle.gm_state.proofs.Common.{◌≡◌, ◌⊎◌, ◌∙◌, inl, inr, ⊎_elim, ℕ, ◌<◌, ◌≤◌, ◌&&◌, Bool, not, nat_lt, true, false, refl, sym, ap, subst, arith, List, [], ◌∷◌, Option, Some, None, eq-eqb, ltb-true, ltb-false, option_map, list_any, same_label, cases_Bool, cases_order, and_parts, lt-ltb, le-ltb, ne_eqb, not-true, Component, Has, Ascends, label_lt, Records, IsState, members, provider, component_of, is_active, lends_to, goes_first, source_among, source_of, GoesFirst, IsBest, IsSource, better, best_of, lt_asym, lt_irrefl, any_from, any_none, find_none, find_only, not_both, option_cases, Has-filter, filter-Has}
 
 IsBest-same : (P Q : Component → Type 0) → ((j : Component) → P j → Q j)
     → ((j : Component) → Q j → P j) → (o : Option Component) → IsBest P o → IsBest Q o

@@ -1,3 +1,4 @@
+pub mod Common
 pub mod CopyFound
 pub mod Counted
 pub mod EncodedSectors

@@ -1,14 +1,8 @@
 -- What sorted lists that fail the tests say of all orders of their records.
-use Rattle.std.proofs.Common.{◌≡◌, ◌∙◌, sym, ap, subst, Bool, true, false, List, true≢false}
+use Rattle.gm_state.proofs.Common.{◌≡◌, ◌∙◌, sym, ap, subst, Bool, true, false, List, true≢false, IsPermutation-sym, IsPermutation-trans, Mirror, Component, Records, IsState, IsStateOf, name, provider, is_state, sorted_is, permuted_is}
 use Rattle.std.specs.List.Sorted.{IsPermutation, IsSortedByKey}
 use Rattle.std.specs.Ordering.{nat_cmp}
 use Rattle.std.specs.Cmp.Lexicographic.{slice_cmp}
-use Rattle.std.proofs.lemmas.List.Sorted.{IsPermutation-sym, IsPermutation-trans}
-use Rattle.gm_state.specs.declared.records.Mirror.{Mirror}
-use Rattle.gm_state.specs.declared.records.Component.{Component}
-use Rattle.gm_state.specs.Records.{Records, IsState, IsStateOf, name, provider}
-use Rattle.gm_state.specs.RuleTests.{is_state}
-use Rattle.gm_lists.proofs.Sorting.{sorted_is, permuted_is}
 use Rattle.gm_state.proofs.TestsTellRules.{is_state_from, is_state_tells}
 
 -- the test of two lists is that of two equal ones

@@ -1,9 +1,5 @@
 -- A mirror without components.
-use Rattle.std.proofs.Common.{◌≡◌, inl, inr, ℕ, false, refl, List, [], ◌∷◌}
-use Rattle.gm_metadata.specs.Images.{same_label}
-use Rattle.gm_state.specs.declared.records.Component.{Component}
-use Rattle.gm_state.specs.Records.{members}
-use Rattle.gm_lists.specs.Ordered.{Has}
+use Rattle.gm_state.proofs.Common.{◌≡◌, inl, inr, ℕ, false, refl, List, [], ◌∷◌, same_label, Component, members, Has}
 
 -- a mirror that no component is of
 pub no_members : (ks : List Component) (n : List ℕ)

@@ -1,18 +1,5 @@
 -- The component that is patched is found by its name, and what stands in a list of one patch.
-use Rattle.std.proofs.Common.{◌≡◌, ◌∙◌, inl, inr, ⊎_elim, ℕ, suc, ◌≤◌, ◌<◌, List, [], ◌∷◌, ◌++◌, true, false, refl, sym, ap, subst, arith, Some, None, find, length, get_or}
-use Rattle.std.specs.List.{list_any}
-use Rattle.gm_state.specs.declared.intents.Intent.{Intent}
-use Rattle.gm_state.specs.declared.intents.Intent.TheVariants.{Meta, Clear, Copy, Dirty, Patch}
-use Rattle.gm_state.specs.declared.records.Mirror.{Mirror}
-use Rattle.gm_state.specs.declared.records.Component.{Component}
-use Rattle.gm_state.specs.declared.records.Disk.TheVariants.{InSync}
-use Rattle.gm_lists.specs.Ordered.{Has}
-use Rattle.gm_lists.proofs.Finding.{found, found_none, any_from, any_none, none_any, not_both, some_any}
-use Rattle.gm_lists.proofs.Order.{same_is, same_from}
-use Rattle.gm_state.specs.Records.{Records, IsState}
-use Rattle.gm_state.specs.Lookups.{component_of, mirror_of}
-use Rattle.gm_state.specs.Intents.{is_dirty_of, is_meta_of, LeaveNoDirt}
-use Rattle.gm_state.specs.Readable.{is_copy, is_patch, IsPatchWithin, StandsBetween, AreOrderedFrom, IsOfRange, AreOfOnePatch, AreSectors}
+use Rattle.gm_state.proofs.Common.{◌≡◌, ◌∙◌, inl, inr, ⊎_elim, ℕ, suc, ◌≤◌, ◌<◌, List, [], ◌∷◌, ◌++◌, true, false, refl, sym, ap, subst, arith, Some, None, find, length, get_or, list_any, Intent, Meta, Clear, Copy, Dirty, Patch, Mirror, Component, InSync, Has, found, found_none, any_from, any_none, none_any, not_both, some_any, same_is, same_from, Records, IsState, component_of, mirror_of, is_dirty_of, is_meta_of, LeaveNoDirt, is_copy, is_patch, IsPatchWithin, StandsBetween, AreOrderedFrom, IsOfRange, AreOfOnePatch, AreSectors}
 use Rattle.gm_state.proofs.CopyFound.{member_from, component_named, component_found, home_found}
 use Rattle.gm_state.proofs.FoundRecords.{named}
 

@@ -1,13 +1,5 @@
 -- Sectors that intents name, and those that they bring data to.
-use Rattle.std.proofs.Common.{◌≡◌, ◌⊎◌, inl, inr, ⊎_elim, ℕ, ◌+◌, ◌<◌, ◌≤◌, nat_le, nat_lt, ◌&&◌, ◌||◌, Bool, List, [], ◌∷◌, ◌++◌, Option, Some, None, true, false, refl, sym, subst, arith, eqb-true, eq-eqb, ltb-true}
-use Rattle.std.proofs.lemmas.Bool.{and_parts, leb-true, or_left, or_right}
-use Rattle.gm_metadata.specs.Images.{Sizes, same_label}
-use Rattle.gm_state.specs.declared.intents.Intent.{Intent}
-use Rattle.gm_state.specs.declared.intents.Intent.TheVariants.{Meta, Clear, Copy, Dirty, Patch}
-use Rattle.gm_state.specs.Intents.{is_last, copies, fills, names, is_dirty, is_dirty_of, is_meta_of, any_copies, any_fills, is_place}
-use Rattle.gm_lists.specs.Ordered.{Has}
-use Rattle.gm_lists.proofs.Finding.{not_both, Has-append_left}
-use Rattle.gm_lists.proofs.Order.{same_is, same_from}
+use Rattle.gm_state.proofs.Common.{◌≡◌, ◌⊎◌, inl, inr, ⊎_elim, ℕ, ◌+◌, ◌<◌, ◌≤◌, nat_le, nat_lt, ◌&&◌, ◌||◌, Bool, List, [], ◌∷◌, ◌++◌, Option, Some, None, true, false, refl, sym, subst, arith, eqb-true, eq-eqb, ltb-true, and_parts, leb-true, or_left, or_right, Sizes, same_label, Intent, Meta, Clear, Copy, Dirty, Patch, is_last, copies, fills, names, is_dirty, is_dirty_of, is_meta_of, any_copies, any_fills, is_place, Has, not_both, Has-append_left, same_is, same_from}
 
 pub or_true : (a b : Bool) → (a || b) ≡ true → (a ≡ true) ⊎ (b ≡ true)
 or_true true b e = inl refl

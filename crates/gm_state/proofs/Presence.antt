@@ -1,7 +1,5 @@
 -- Providers that are there.
-use Rattle.std.proofs.Common.{◌≡◌, ℕ, Bool, true, false, List, Option, Some, None, sym, subst, if◌then◌else◌}
-use Rattle.std.specs.Prelude.{IsSomeAnd}
-use Rattle.gm_state.specs.World.{World, present}
+use Rattle.gm_state.proofs.Common.{◌≡◌, ℕ, Bool, true, false, List, Option, Some, None, sym, subst, if◌then◌else◌, IsSomeAnd, World, present}
 
 shown : (b : Bool) (o : Option ℕ) (n : ℕ) → (if b then o else None) ≡ Some n → o ≡ Some n
 shown true o n e = e

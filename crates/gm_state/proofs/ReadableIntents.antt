@@ -1,27 +1,10 @@
 -- Intents that are readable for a state are safe: their order, and what their copies lend.
-use Rattle.std.proofs.Common.{◌≡◌, ◌≢◌, ◌∙◌, inl, inr, ⊎_elim, ℕ, ◌+◌, ◌<◌, ◌≤◌, ◌&&◌, List, [], ◌∷◌, ◌++◌, length, filter, true, false, refl, sym, ap, subst, arith, Option, None, Some, nat_le, nat_lt, ltb-true}
-use Rattle.std.specs.List.{list_any}
-use Rattle.std.proofs.lemmas.Bool.{cases_Bool, and_parts, or_parts, or_left, or_right}
+use Rattle.gm_state.proofs.Common.{◌≡◌, ◌≢◌, ◌∙◌, inl, inr, ⊎_elim, ℕ, ◌+◌, ◌<◌, ◌≤◌, ◌&&◌, List, [], ◌∷◌, ◌++◌, length, filter, true, false, refl, sym, ap, subst, arith, Option, None, Some, nat_le, nat_lt, ltb-true, list_any, cases_Bool, and_parts, or_parts, or_left, or_right, Sizes, same_label, Intent, Meta, Clear, Copy, Dirty, Patch, Mirror, Component, Has, Records, IsState, provider, component_of, IsOf, AreThere, touches, is_last, is_dirty_of, claims, copies, patches, fills, names, is_place, any_fills, AllSay, Lends, InOrder, InOrderFrom, is_copy, is_patch, is_fill_of, IsCopyWithin, IsPatchWithin, IsReadable, StandsBetween, AreOrdered, AreOrderedFrom, AreOfOnePatch, AreReadable, World, Sound, CopiesData, any_from, any_none, none_any, found_none, not_both, filter-Has, same_from, same_is, one}
 use Rattle.std.proofs.lemmas.Bool.Decides.{eqb_tells}
-use Rattle.gm_metadata.specs.Images.{Sizes, same_label}
-use Rattle.gm_state.specs.declared.intents.Intent.{Intent}
-use Rattle.gm_state.specs.declared.intents.Intent.TheVariants.{Meta, Clear, Copy, Dirty, Patch}
-use Rattle.gm_state.specs.declared.records.Mirror.{Mirror}
-use Rattle.gm_state.specs.declared.records.Component.{Component}
-use Rattle.gm_lists.specs.Ordered.{Has}
-use Rattle.gm_state.specs.Records.{Records, IsState, provider}
-use Rattle.gm_state.specs.Lookups.{component_of}
 use Rattle.gm_state.specs.Disks.{held_by}
-use Rattle.gm_state.specs.Intents.{IsOf, AreThere, touches, is_last, is_dirty_of, claims, copies, patches, fills, names, is_place, any_fills, AllSay, Lends, InOrder, InOrderFrom}
-use Rattle.gm_state.specs.Readable.{is_copy, is_patch, is_fill_of, IsCopyWithin, IsPatchWithin, IsReadable, StandsBetween, AreOrdered, AreOrderedFrom, AreOfOnePatch, AreReadable}
-use Rattle.gm_state.specs.World.{World, Sound, CopiesData}
-use Rattle.gm_lists.proofs.Finding.{any_from, any_none, none_any, found_none, not_both}
-use Rattle.gm_lists.proofs.Lists.{filter-Has}
-use Rattle.gm_lists.proofs.Order.{same_from, same_is}
 use Rattle.gm_state.proofs.Places.{or_true, last_named, placed_by, copied_at, copied_by}
 use Rattle.gm_state.proofs.SoundClaims.{some_there, mirror_found}
 use Rattle.gm_state.proofs.TestsTellRules.{member}
-use Rattle.gm_lists.proofs.Putting.{one}
 
 -- none brings data to p if none is a fill of it
 no_fill : (ts : List Intent) (p : List ℕ) → list_any (is_fill_of p) ts ≡ false → (i : ℕ)

@@ -1,13 +1,6 @@
 -- Answered keys with one row are one, and so are bytes.
-use Rattle.std.proofs.Common.{rules, ◌≡◌, ◌<◌, refl, ap, arith}
-use Rattle.gm_state.specs.declared.intents.Reply.{Reply}
-use Rattle.gm_state.specs.declared.intents.Reply.TheVariants.{Plain, Copied}
-use Rattle.gm_state.specs.World.{Answered, AnswerFits, ReplyFits}
-use Rattle.gm_state.specs.declared.records.Mirror.{Mirror}
-use Rattle.gm_state.specs.declared.records.Component.{Component}
-use Rattle.gm_state.specs.Rows.{mirror_row, component_row, answer_row, copied_of, total_of}
+use Rattle.gm_state.proofs.Common.{rules, ◌≡◌, ◌<◌, refl, ap, arith, Reply, Plain, Copied, Answered, AnswerFits, ReplyFits, Mirror, Component, mirror_row, component_row, answer_row, copied_of, total_of, same_command}
 pub use Rattle.gm_commands.proofs.JoinedSectors.{same_joined}
-use Rattle.gm_commands.proofs.OneCommand.{same_command}
 
 -- a copy that was answered holds some sectors
 pub same_reply : (a b : Reply) → ReplyFits a → ReplyFits b → copied_of a ≡ copied_of b

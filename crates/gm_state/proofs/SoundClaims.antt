@@ -1,18 +1,7 @@
 -- What the metadata of a sound world's components claim.
-use Rattle.std.proofs.Common.{◌≡◌, ◌≢◌, ◌∙◌, ℕ, ◌*◌, ◌/◌, ◌-◌, ◌<◌, Bool, true, false, List, None, Some, refl, sym, ap, subst, arith, if◌then◌else◌}
-use Rattle.std.specs.Prelude.{IsSome, Option}
-use Rattle.gm_metadata.specs.Images.{Image, SameThere, same_label}
-use Rattle.gm_state.specs.declared.records.Disk.{Disk}
-use Rattle.gm_state.specs.declared.records.Disk.TheVariants.{InSync, Inactive, Copying}
-use Rattle.gm_state.specs.declared.records.Mirror.{Mirror}
-use Rattle.gm_state.specs.declared.records.Component.{Component}
-use Rattle.gm_state.specs.Lookups.{metadata, mirror_of, disk_flags, held_of}
-use Rattle.gm_state.specs.Records.{Records, held_by}
-use Rattle.gm_state.specs.World.{World, Sound, Claims, claimed, has_syncid, data_at}
-use Rattle.gm_lists.specs.Ordered.{Has}
+use Rattle.gm_state.proofs.Common.{◌≡◌, ◌≢◌, ◌∙◌, ℕ, ◌*◌, ◌/◌, ◌-◌, ◌<◌, Bool, true, false, List, None, Some, refl, sym, ap, subst, arith, if◌then◌else◌, IsSome, Option, Image, SameThere, same_label, Disk, InSync, Inactive, Copying, Mirror, Component, metadata, mirror_of, Records, held_by, World, Sound, Claims, claimed, has_syncid, data_at, Has, found_none, not_both, same_refl}
+use Rattle.gm_state.specs.Lookups.{disk_flags, held_of}
 use Rattle.gm_state.proofs.EncodedSectors.{bears_one}
-use Rattle.gm_lists.proofs.Finding.{found_none, not_both}
-use Rattle.gm_lists.proofs.Order.{same_refl}
 
 -- metadata without INACTIVE claim what their component holds, of a mirror with as many data sectors
 pub claims_of : (a m : Mirror) (k : Component) → (metadata m k).dflags.inactive ≡ false

@@ -1,6 +1,5 @@
 -- What holds of a list, told from what is left of it.
-use Rattle.std.proofs.Common.{◌≡◌, ◌∙◌, inr, ⊎_elim, ℕ, zero, suc, ◌+◌, ◌<◌, ◌≤◌, List, [], ◌∷◌, drop, length, get_or, refl, sym, ap, add-one, drop-cons, arith}
-use Rattle.gm_lists.specs.Ordered.{Has}
+use Rattle.gm_state.proofs.Common.{◌≡◌, ◌∙◌, inr, ⊎_elim, ℕ, zero, suc, ◌+◌, ◌<◌, ◌≤◌, List, [], ◌∷◌, drop, length, get_or, refl, sym, ap, add-one, drop-cons, arith, Has}
 
 -- the first of what is left
 pub next_is : {A : Type 0} (xs : List A) (i : ℕ) (x : A) → i < length xs → x ≡ get_or xs i x

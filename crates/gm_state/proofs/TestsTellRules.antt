@@ -1,22 +1,7 @@
 -- The tests of the rules tell the rules.
-use Rattle.std.proofs.Common.{◌≡◌, ◌≢◌, ◌∙◌, inl, inr, ⊎_elim, ℕ, ◌<◌, ◌≤◌, ◌+◌, ◌^◌, ◌==◌, ◌&&◌, ◌||◌, not, nat_lt, nat_le, Bool, true, false, refl, sym, ap, arith, List, [], ◌∷◌, length, true≢false, eqb-true, eq-eqb, ltb-true}
-use Rattle.std.specs.List.{list_any, list_all}
+use Rattle.gm_state.proofs.Common.{◌≡◌, ◌≢◌, ◌∙◌, inl, inr, ⊎_elim, ℕ, ◌<◌, ◌≤◌, ◌+◌, ◌^◌, ◌==◌, ◌&&◌, ◌||◌, not, nat_lt, nat_le, Bool, true, false, refl, sym, ap, arith, List, [], ◌∷◌, length, true≢false, eqb-true, eq-eqb, ltb-true, list_any, list_all, and_parts, leb-true, le-leb, lt-ltb, or_cases, or_left, or_right, is_label, Mirror, Component, Disk, InSync, Inactive, Copying, Has, Ascends, Records, MirrorFits, ComponentFits, IsMirror, IsState, members, name, provider, mirror_fits, component_fits, is_current, is_component, is_mirror, are_mirrors, has_own_mid, has_own_did, has_home, is_state, ascending, same_is, same_from, one, Has-filter, filter-Has, all_has, has_all, ascending_tells, ascending_from}
 use Rattle.std.specs.Str.{bytes_eq}
-use Rattle.std.proofs.lemmas.Bool.{and_parts, leb-true, le-leb, lt-ltb, or_cases, or_left, or_right}
-use Rattle.gm_metadata.specs.Labels.{is_label}
-use Rattle.gm_state.specs.declared.records.Mirror.{Mirror}
-use Rattle.gm_state.specs.declared.records.Component.{Component}
-use Rattle.gm_state.specs.declared.records.Disk.{Disk}
-use Rattle.gm_state.specs.declared.records.Disk.TheVariants.{InSync, Inactive, Copying}
 use Rattle.gm_state.specs.Disks.{is_active, is_inactive, held_of}
-use Rattle.gm_lists.specs.Ordered.{Has, Ascends}
-use Rattle.gm_state.specs.Records.{Records, MirrorFits, ComponentFits, IsMirror, IsState, members, name, provider}
-use Rattle.gm_state.specs.RuleTests.{mirror_fits, component_fits, is_current, is_component, is_mirror, are_mirrors, has_own_mid, has_own_did, has_home, is_state}
-use Rattle.gm_lists.specs.Ordered.{ascending}
-use Rattle.gm_lists.proofs.Order.{same_is, same_from}
-use Rattle.gm_lists.proofs.Putting.{one}
-use Rattle.gm_lists.proofs.Lists.{Has-filter, filter-Has}
-use Rattle.gm_lists.proofs.Sorting.{all_has, has_all, ascending_tells, ascending_from}
 
 pub any_tells : {X : Type 0} (p : X → Bool) (xs : List X) → list_any p xs ≡ true
     → (x : X) × Has xs x × (p x ≡ true)

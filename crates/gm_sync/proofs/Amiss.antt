@@ -1,17 +1,5 @@
 -- Which components of the mirrors that are meant aren't as they are registered.
-use Rattle.std.proofs.Common.{◌≡◌, ◌∙◌, inl, inr, ℕ, true, sym, ap, subst, List, Some, filter}
-use Rattle.gm_lists.proofs.Finding.{find_one}
-use Rattle.gm_lists.proofs.Lists.{Ascends-filter, Has-filter, filter-Has}
-use Rattle.gm_metadata.specs.Images.{Image, Sizes, same_label}
-use Rattle.gm_state.specs.declared.records.Mirror.{Mirror}
-use Rattle.gm_state.specs.declared.records.Component.{Component}
-use Rattle.gm_state.specs.Intents.{IsOf}
-use Rattle.gm_state.specs.Lookups.{component_of}
-use Rattle.gm_state.specs.Records.{Records, IsState, provider}
-use Rattle.gm_looks.specs.Audits.{IsAudit}
-use Rattle.gm_sync.specs.declared.scope.Scope.{Scope}
-use Rattle.gm_sync.specs.Filling.{IsAmiss}
-use Rattle.gm_sync.specs.Scopes.{is_beside, is_beside_at, is_named_beside}
+use Rattle.gm_sync.proofs.Common.{◌≡◌, ◌∙◌, inl, inr, ℕ, true, sym, ap, subst, List, Some, filter, find_one, Ascends-filter, Has-filter, filter-Has, Image, Sizes, same_label, Mirror, Component, IsOf, component_of, Records, IsState, provider, IsAudit, Scope, IsAmiss, is_beside, is_beside_at, is_named_beside}
 
 -- a component is found by its own name
 pub component_is : (s : Records) (m : Mirror) (k : Component) → IsState s → IsOf s m k

@@ -1,8 +1,5 @@
 -- How a sync ended.
-use Rattle.gm_state.specs.Records.{Records}
-use Rattle.gm_sync.specs.declared.synced.Ending.{Ending}
-use Rattle.gm_sync.specs.declared.synced.Ending.TheVariants.{Whole, Refused}
-use Rattle.gm_sync.specs.Ends.{IfWhole}
+use Rattle.gm_sync.proofs.Common.{Records, Ending, Whole, Refused, IfWhole}
 
 -- what follows of what is whole
 pub whole_too : (P Q : Records → Type 0) → ((state : Records) → P state → Q state) → (x : Ending)

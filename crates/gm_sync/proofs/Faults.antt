@@ -1,21 +1,8 @@
 -- The faults of calls in turn are those of the call that failed.
-use Rattle.std.proofs.Common.{◌≡◌, ◌∙◌, Bool, true, false, refl, sym, ap, arith, [], Result, Err}
-use Rattle.std.specs.Prelude.{IfErr}
+use Rattle.gm_sync.proofs.Common.{◌≡◌, ◌∙◌, Bool, true, false, refl, sym, ap, arith, [], Result, Err, IfErr, Held, state, Command, DiskKept, registry_of, shelf_of, ClosesOnFault, Keep, LooksOn, TellsOfRecords, TellsStore, Bench, BenchFault, Absent, Closed, Disk, Memory, Store, done_at_rest, FailsAsCalls, Fills, PassesByAudit, Scope, Synced}
 use Rattle.sqlite_trees.specs.declared.store.Store.{Ghosts as StoreGhosts}
-use Rattle.sqlite.specs.Held.{Held, state}
 use Rattle.gm_shelf.specs.declared.shelf.Shelf.{Ghosts as ShelfGhosts}
-use Rattle.gm_commands.specs.declared.command.Command.{Command}
-use Rattle.gm_registry.specs.Registry.{DiskKept}
 use Rattle.gm_registry.proofs.ReadsInTurn.{sees_registry}
-use Rattle.gm_bench.specs.Benches.{registry_of, shelf_of}
-use Rattle.gm_bench.specs.Calls.{ClosesOnFault, Keep, LooksOn, TellsOfRecords, TellsStore}
-use Rattle.gm_bench.specs.declared.bench.Bench.{Bench}
-use Rattle.gm_bench.specs.declared.fault.BenchFault.{BenchFault}
-use Rattle.gm_bench.specs.declared.fault.BenchFault.TheVariants.{Absent, Closed, Disk, Memory, Store}
-use Rattle.gm_bench.proofs.CarriedOut.{done_at_rest}
-use Rattle.gm_sync.specs.Filling.{FailsAsCalls, Fills, PassesByAudit}
-use Rattle.gm_sync.specs.declared.scope.Scope.{Scope}
-use Rattle.gm_sync.specs.declared.synced.Synced.{Synced}
 
 module _ {S H : Type 0} (g : StoreGhosts S) (h : ShelfGhosts H) where
   -- a look that failed

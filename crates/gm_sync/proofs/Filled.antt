@@ -1,30 +1,11 @@
 -- Calls that fill, one after the other.
-use Rattle.std.proofs.Common.{◌≡◌, ◌∙◌, ◌⊎◌, inl, inr, refl, subst, arith, List, [], ◌∷◌, ◌++◌, Result, Ok}
+use Rattle.gm_sync.proofs.Common.{◌≡◌, ◌∙◌, ◌⊎◌, inl, inr, refl, subst, arith, List, [], ◌∷◌, ◌++◌, Result, Ok, Image, Has, IsLawful, Command, Records, World, Call, Run, AreRecordsOf, DiskKept, progress_of, registry_of, shelf_of, Keep, LooksOn, LookDoes, IsAt, Answer, BenchFault, Bench, done_at_rest, Due, Fills, IsFilledFrom, IsWhole}
 use Rattle.sqlite_trees.specs.declared.store.Store.{Ghosts as StoreGhosts}
-use Rattle.gm_metadata.specs.Images.{Image}
-use Rattle.gm_lists.specs.Ordered.{Has}
 use Rattle.gm_shelf.specs.declared.shelf.Shelf.{Ghosts as ShelfGhosts}
-use Rattle.gm_shelf.specs.Disk.{IsLawful}
 use Rattle.gm_shelf.proofs.Keeping.{keeps_then}
-use Rattle.gm_commands.specs.declared.command.Command.{Command}
-use Rattle.gm_state.specs.Records.{Records}
-use Rattle.gm_state.specs.World.{World}
-use Rattle.gm_rules.specs.AbstractCalls.{Call, Run}
 use Rattle.gm_rules.specs.AbstractCalls as run
-use Rattle.gm_rows.specs.ReadableTables.{AreRecordsOf}
-use Rattle.gm_registry.specs.Registry.{DiskKept}
-use Rattle.gm_bench.specs.Benches.{progress_of, registry_of, shelf_of}
-use Rattle.gm_bench.specs.Calls.{Keep, LooksOn}
-use Rattle.gm_bench.specs.Owed.{LookDoes}
-use Rattle.gm_bench.specs.Recovering.{IsAt}
-use Rattle.gm_bench.specs.declared.answer.Answer.{Answer}
-use Rattle.gm_bench.specs.declared.fault.BenchFault.{BenchFault}
-use Rattle.gm_bench.specs.declared.bench.Bench.{Bench}
 use Rattle.gm_bench.proofs.Looks.{looked_at}
-use Rattle.gm_bench.proofs.CarriedOut.{done_at_rest}
 use Rattle.gm_bench.proofs.GatheredFacts.{are_records}
-use Rattle.gm_sync.specs.declared.due.Due.{Due}
-use Rattle.gm_sync.specs.Filling.{Fills, IsFilledFrom, IsWhole}
 
 -- runs in turn
 pub run_then : (u : World) (calls : List Call) (v : World) (answers : List run.Answer)

@@ -1,31 +1,11 @@
 -- Calls that fill, of which the last command may still be to be settled.
-use Rattle.std.proofs.Common.{◌≡◌, ◌∙◌, inl, inr, ℕ, refl, sym, subst, arith, List, [], ◌∷◌, ◌++◌, Err, Result}
-use Rattle.std.specs.Prelude.{IfErr}
+use Rattle.gm_sync.proofs.Common.{◌≡◌, ◌∙◌, inl, inr, ℕ, refl, sym, subst, arith, List, [], ◌∷◌, ◌++◌, Err, Result, IfErr, Held, Image, Command, World, Tables, DiskKept, HasTables, StoreFailed, progress_of, registry_of, shelf_of, Keep, TakesCommands, IsAt, IsHandedIn, Stands, Answer, Bench, BenchFault, Absent, Closed, Disk, Memory, Store, Ready, Failed, takes_ready, carried_so, stands_rest, FailsAsCalls, FailsOn, Fills, FillsOn, IsClosedBut}
 use Rattle.sqlite_trees.specs.declared.store.Store.{Ghosts as StoreGhosts}
-use Rattle.sqlite.specs.Held.{Held}
-use Rattle.gm_metadata.specs.Images.{Image}
 use Rattle.gm_shelf.specs.declared.shelf.Shelf.{Ghosts as ShelfGhosts}
-use Rattle.gm_commands.specs.declared.command.Command.{Command}
-use Rattle.gm_state.specs.World.{World}
 use Rattle.gm_rules.specs.AbstractCalls as run
-use Rattle.gm_state.specs.Rows.{Tables}
-use Rattle.gm_registry.specs.Registry.{DiskKept, HasTables, StoreFailed}
-use Rattle.gm_bench.specs.Benches.{progress_of, registry_of, shelf_of}
-use Rattle.gm_bench.specs.Calls.{Keep}
-use Rattle.gm_bench.specs.Phases.{TakesCommands}
-use Rattle.gm_bench.specs.Recovering.{IsAt}
 use Rattle.gm_bench.specs.Running.{answer_of}
-use Rattle.gm_bench.specs.Standing.{IsHandedIn, Stands}
-use Rattle.gm_bench.specs.declared.answer.Answer.{Answer}
 use Rattle.gm_bench.specs.declared.answer.Answer.TheVariants.{Done, Repeated, Refused}
-use Rattle.gm_bench.specs.declared.bench.Bench.{Bench}
-use Rattle.gm_bench.specs.declared.fault.BenchFault.{BenchFault}
-use Rattle.gm_bench.specs.declared.fault.BenchFault.TheVariants.{Absent, Closed, Disk, Memory, Store}
 use Rattle.gm_bench.specs.declared.phase.Progress.{Progress}
-use Rattle.gm_bench.specs.declared.phase.Progress.TheVariants.{Ready, Failed}
-use Rattle.gm_bench.proofs.Phases.{takes_ready}
-use Rattle.gm_bench.proofs.Standing.{carried_so, stands_rest}
-use Rattle.gm_sync.specs.Filling.{FailsAsCalls, FailsOn, Fills, FillsOn, IsClosedBut}
 use Rattle.gm_sync.proofs.Filled.{either_fills, has_either, keep_none, keep_then, one_fills, run_then}
 
 -- the world that a command reaches, and where the bench stands then

@@ -1,4 +1,5 @@
 pub mod Amiss
+pub mod Common
 pub mod Ended
 pub mod Faults
 pub mod Filled

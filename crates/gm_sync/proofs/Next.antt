@@ -1,15 +1,8 @@
 -- What is next is due.
-use Rattle.std.proofs.Common.{◌≡◌, true}
+use Rattle.gm_sync.proofs.Common.{◌≡◌, true, Command, Component, Records, Bench, Due, Fills, IsAdvanceIn, IsAdvanceOf, is_due, is_filling, is_next}
 use Rattle.sqlite_trees.specs.declared.store.Store.{Ghosts as StoreGhosts}
-use Rattle.gm_commands.specs.declared.command.Command.{Command}
 use Rattle.gm_metadata.proofs.Labels.{both}
 use Rattle.gm_shelf.specs.declared.shelf.Shelf.{Ghosts as ShelfGhosts}
-use Rattle.gm_state.specs.declared.records.Component.{Component}
-use Rattle.gm_state.specs.Records.{Records}
-use Rattle.gm_bench.specs.declared.bench.Bench.{Bench}
-use Rattle.gm_sync.specs.declared.due.Due.{Due}
-use Rattle.gm_sync.specs.Filling.{Fills, IsAdvanceIn, IsAdvanceOf}
-use Rattle.gm_sync.specs.Scopes.{is_due, is_filling, is_next}
 use Rattle.gm_sync.proofs.Filled.{fills_too}
 
 -- a command that fills it fills what is due

@@ -1,20 +1,6 @@
 -- The mirrors that are passed over are those of the images that are amiss.
-use Rattle.std.proofs.Common.{◌≡◌, ◌∙◌, inl, inr, ℕ, true, refl, sym, ap, subst, List, [], filter}
-use Rattle.gm_lists.specs.Ordered.{Has, label_lt}
-use Rattle.gm_lists.proofs.Finding.{any_from, found, not_both, option_cases, some_any}
-use Rattle.gm_lists.proofs.Lists.{Ascends-filter, AscendsBy-map, Has-filter, Has-map, filter-Has, map-Has}
+use Rattle.gm_sync.proofs.Common.{◌≡◌, ◌∙◌, inl, inr, ℕ, true, refl, sym, ap, subst, List, [], filter, Has, label_lt, any_from, found, not_both, option_cases, some_any, Ascends-filter, AscendsBy-map, Has-filter, Has-map, filter-Has, map-Has, Image, Sizes, same_label, Mirror, Component, IsOf, component_of, Records, IsState, name, IsAudit, PassedOver, Scope, AreAsRegistered, AreMirrorsOf, IsAmiss, IsPassedOver, PassesNone, but, has_image, is_component_of, is_named_beside, is_one_of, is_passed_over, mirrors_of}
 use Rattle.gm_lists.proofs.Order.{same_from, same_is}
-use Rattle.gm_metadata.specs.Images.{Image, Sizes, same_label}
-use Rattle.gm_state.specs.declared.records.Mirror.{Mirror}
-use Rattle.gm_state.specs.declared.records.Component.{Component}
-use Rattle.gm_state.specs.Intents.{IsOf}
-use Rattle.gm_state.specs.Lookups.{component_of}
-use Rattle.gm_state.specs.Records.{Records, IsState, name}
-use Rattle.gm_looks.specs.Audits.{IsAudit}
-use Rattle.gm_sync.specs.declared.passed_over.PassedOver.{PassedOver}
-use Rattle.gm_sync.specs.declared.scope.Scope.{Scope}
-use Rattle.gm_sync.specs.Filling.{AreAsRegistered, AreMirrorsOf, IsAmiss, IsPassedOver}
-use Rattle.gm_sync.specs.Scopes.{PassesNone, but, has_image, is_component_of, is_named_beside, is_one_of, is_passed_over, mirrors_of}
 use Rattle.gm_sync.proofs.Amiss.{amiss_of, component_is}
 
 -- a component that is found and is the mirror's is one of it

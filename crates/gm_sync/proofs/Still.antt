@@ -1,18 +1,7 @@
 -- If nothing is to be filled, nothing is written.
-use Rattle.std.proofs.Common.{◌≡◌, arith, sym, subst, Ok, None}
+use Rattle.gm_sync.proofs.Common.{◌≡◌, arith, sym, subst, Ok, None, Records, Tables, AreRecordsOf, DiskKept, HasTables, registry_of, shelf_of, Keep, LooksOn, LookDoes, Bench, Due, IsStill, next_of}
 use Rattle.sqlite_trees.specs.declared.store.Store.{Ghosts as StoreGhosts}
 use Rattle.gm_shelf.specs.declared.shelf.Shelf.{Ghosts as ShelfGhosts}
-use Rattle.gm_state.specs.Records.{Records}
-use Rattle.gm_state.specs.Rows.{Tables}
-use Rattle.gm_rows.specs.ReadableTables.{AreRecordsOf}
-use Rattle.gm_registry.specs.Registry.{DiskKept, HasTables}
-use Rattle.gm_bench.specs.Benches.{registry_of, shelf_of}
-use Rattle.gm_bench.specs.Calls.{Keep, LooksOn}
-use Rattle.gm_bench.specs.Owed.{LookDoes}
-use Rattle.gm_bench.specs.declared.bench.Bench.{Bench}
-use Rattle.gm_sync.specs.declared.due.Due.{Due}
-use Rattle.gm_sync.specs.Filling.{IsStill}
-use Rattle.gm_sync.specs.Scopes.{next_of}
 use Rattle.gm_sync.proofs.Filled.{look_none, look_then}
 
 module _ {S H : Type 0} (g : StoreGhosts S) (h : ShelfGhosts H) (due : Due) where

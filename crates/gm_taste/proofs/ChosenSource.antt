@@ -1,12 +1,5 @@
 -- The member that was chosen is the source.
-use Rattle.std.proofs.Common.{◌≡◌, ◌∙◌, ◌⊎◌, inl, inr, ⊎_elim, ℕ, ◌<◌, Bool, true, false, ◌||◌, ◌&&◌, ◌==◌, nat_lt, refl, sym, ap, subst, arith, List, [], ◌∷◌, Option, Some, None}
-use Rattle.std.proofs.lemmas.Bool.{cases_Bool}
-use Rattle.std.proofs.lemmas.Bool.Decides.{nat_tests}
-use Rattle.gm_taste.specs.declared.tasted.Member.{Member}
-use Rattle.gm_lists.specs.Ordered.{label_lt, Has}
-use Rattle.gm_taste.specs.States.{is_active}
-use Rattle.gm_taste.specs.Sources.{GoesFirst, IsFirst, goes_before, takes_place, first_of_two, first_from}
-use Rattle.gm_lists.proofs.Order.{lt_trans, lt_irrefl}
+use Rattle.gm_taste.proofs.Common.{◌≡◌, ◌∙◌, ◌⊎◌, inl, inr, ⊎_elim, ℕ, ◌<◌, Bool, true, false, ◌||◌, ◌&&◌, ◌==◌, nat_lt, refl, sym, ap, subst, arith, List, [], ◌∷◌, Option, Some, None, cases_Bool, nat_tests, Member, label_lt, Has, is_active, GoesFirst, IsFirst, goes_before, takes_place, first_of_two, first_from, lt_trans, lt_irrefl}
 
 not_less : (a : List ℕ) → label_lt a a ≡ false
 not_less a = ⊎_elim (λ (e : label_lt a a ≡ true). absurd (lt_irrefl a e))

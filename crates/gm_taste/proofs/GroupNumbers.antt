@@ -1,10 +1,5 @@
 -- The numbers of a group: the greatest of those that are meant.
-use Rattle.std.proofs.Common.{◌≡◌, ◌∙◌, ◌⊎◌, inl, inr, ⊎_elim, ℕ, ◌≤◌, Bool, true, false, ◌&&◌, nat_lt, cond, refl, sym, ap, arith, List, [], ◌∷◌}
-use Rattle.std.proofs.lemmas.Bool.{cases_Bool}
-use Rattle.std.proofs.lemmas.Bool.Decides.{nat_tests}
-use Rattle.gm_taste.specs.declared.groups.Taken.{Taken}
-use Rattle.gm_lists.specs.Ordered.{Has}
-use Rattle.gm_taste.specs.Tasting.{raised}
+use Rattle.gm_taste.proofs.Common.{◌≡◌, ◌∙◌, ◌⊎◌, inl, inr, ⊎_elim, ℕ, ◌≤◌, Bool, true, false, ◌&&◌, nat_lt, cond, refl, sym, ap, arith, List, [], ◌∷◌, cases_Bool, nat_tests, Taken, Has, raised}
 
 -- ---- the greatest number of those that are meant
 

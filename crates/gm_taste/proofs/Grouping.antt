@@ -1,19 +1,8 @@
 -- How groups are made of the taken in the order of their keys: those of one key are the first of
 -- what is left.
-use Rattle.std.proofs.Common.{◌≡◌, ◌∙◌, ◌⊎◌, inl, inr, ⊎_elim, ℕ, ◌+◌, ◌<◌, Bool, true, false, not, refl, sym, ap, subst, arith, List, [], ◌∷◌, ◌++◌, take, drop, filter, Some, None, slice_get, IsPermutation, IsSortedByKey}
-use Rattle.std.specs.List.{prefix_len}
-use Rattle.std.specs.List.Sorted.{IsStableByKey, IsSortedBy, IsStableBy, ties}
-use Rattle.std.specs.Cmp.{IsStrictWeakOrder}
-use Rattle.std.proofs.lemmas.Bool.{cases_Bool}
-use Rattle.std.proofs.lemmas.List.Sorted.{IsPermutation-sym}
-use Rattle.gm_taste.specs.declared.tasted.Group.{Group}
-use Rattle.gm_taste.specs.declared.groups.Key.{Key}
-use Rattle.gm_taste.specs.declared.groups.Taken.{Taken}
-use Rattle.gm_lists.specs.Ordered.{Has, AscendsBy}
-use Rattle.gm_taste.specs.Tasting.{key_in, key_of, key_lt, same_key, is_of, Made, Grouped}
+use Rattle.gm_taste.proofs.Common.{◌≡◌, ◌∙◌, ◌⊎◌, inl, inr, ⊎_elim, ℕ, ◌+◌, ◌<◌, Bool, true, false, not, refl, sym, ap, subst, arith, List, [], ◌∷◌, ◌++◌, take, drop, filter, Some, None, slice_get, IsSortedByKey, prefix_len, IsStableByKey, IsSortedBy, IsStableBy, ties, IsStrictWeakOrder, cases_Bool, IsPermutation-sym, Group, Key, Taken, Has, AscendsBy, key_in, key_of, key_lt, same_key, is_of, Made, Grouped, Has-push, Has-filter, filter-Has, AscendsBy-filter, Has-permutation}
+use Rattle.std.proofs.Common.{IsPermutation}
 use Rattle.gm_lists.proofs.Finding.{Has-append_left, Has-append_right}
-use Rattle.gm_lists.proofs.Lists.{Has-push, Has-filter, filter-Has, AscendsBy-filter}
-use Rattle.gm_lists.proofs.Sorting.{Has-permutation}
 use Rattle.gm_taste.proofs.Keys.{key_cmp, key_lt_is, key_lt_itself, key_order, taken_lt, is_of_ties, is_of_is, is_of_from}
 use Rattle.gm_taste.proofs.Runs.{Rises, sorted_rises, cut, untied, filter_kept, not_true, not_false, AscendsBy-push}
 

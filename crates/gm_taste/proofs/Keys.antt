@@ -1,20 +1,9 @@
 -- Keys of mirrors: their order, and which of the taken have one.
-use Rattle.std.proofs.Common.{◌≡◌, ◌∙◌, ℕ, Bool, true, false, not, ◌||◌, ◌&&◌, ◌==◌, nat_lt, refl, sym, inl, inr, ap₂, subst, arith, true≢false, List, is_lt, is_eq, nat_cmp, Ordering, Less, Equal, Greater}
+use Rattle.gm_taste.proofs.Common.{◌≡◌, ◌∙◌, ℕ, Bool, true, false, not, ◌||◌, ◌&&◌, ◌==◌, nat_lt, refl, sym, inl, inr, ap₂, subst, arith, true≢false, List, is_lt, is_eq, nat_cmp, Ordering, Less, Equal, Greater, ordering_then, ordering_reverse, IsTotalOrder, IsStrictWeakOrder, slice_cmp, ties, cases_Bool, and_parts, nat_tests, ranks_by, Key, Taken, key_lt, same_key, key_in, is_of, same_is, same_from}
 use mathlib.Core.Path.{fun_ext}
-use Rattle.std.specs.Ordering.{ordering_then, ordering_reverse}
-use Rattle.std.specs.Cmp.{IsTotalOrder, IsStrictWeakOrder}
-use Rattle.std.specs.Cmp.Lexicographic.{slice_cmp}
-use Rattle.std.specs.List.Sorted.{ties}
 use Rattle.std.specs.Str.{bytes_eq}
-use Rattle.std.proofs.lemmas.Bool.{cases_Bool, and_parts}
-use Rattle.std.proofs.lemmas.Bool.Decides.{nat_tests}
 use Rattle.std.proofs.lemmas.Cmp.{then_total, on_total, nat_cmp_total, nat_list_cmp_total}
-use Rattle.std.proofs.lemmas.List.Sorted.{ranks_by}
 use Rattle.std.proofs.lemmas.Map.Text.{is_eq-slice_cmp}
-use Rattle.gm_taste.specs.declared.groups.Key.{Key}
-use Rattle.gm_taste.specs.declared.groups.Taken.{Taken}
-use Rattle.gm_taste.specs.Tasting.{key_lt, same_key, key_in, is_of}
-use Rattle.gm_lists.proofs.Order.{same_is, same_from}
 
 -- ---- the order of keys, which is the one that is derived
 

@@ -1,18 +1,9 @@
 -- A sector whose metadata don't decode begins with the magic field, but for the first fault.
-use Rattle.std.proofs.Common.{◌≡◌, ◌∙◌, inl, inr, ℕ, Bool, true, false, not, ◌==◌, nat_lt, refl, sym, subst, List, Option, Some, None, Result, Ok, Err, slice_index, cond}
-use Rattle.std.proofs.lemmas.Bool.{cases_Bool}
-use Rattle.gm_metadata.specs.Labels.{is_label_field}
-use Rattle.gm_metadata.specs.Sector.{bytes_at, number_at, carries}
-use Rattle.gm_metadata.specs.Reading.{version_in, has_hash, is_provider_field, settings_of, with_settings, said_in, with_version, read_as, reading_of, said, decode_of}
-use Rattle.gm_metadata.specs.Versions.{mirror_flags_end}
-use Rattle.gm_metadata.specs.declared.metadata.Metadata.{Metadata}
+use Rattle.gm_taste.proofs.Common.{◌≡◌, ◌∙◌, inl, inr, ℕ, Bool, true, false, not, ◌==◌, nat_lt, refl, sym, subst, List, Option, Some, None, Result, Ok, Err, slice_index, cond, cases_Bool, is_label_field, bytes_at, number_at, carries, version_in, has_hash, is_provider_field, with_settings, with_version, read_as, said, decode_of, mirror_flags_end, Metadata, Provider, Reason, Decode, OtherName, OtherSize, is_magic, of_metadata, own_name, own_size, judged, verdict}
+use Rattle.gm_metadata.specs.Reading.{settings_of, said_in, reading_of}
 use Rattle.gm_metadata.specs.declared.fault.DecodeFault.{DecodeFault}
 use Rattle.gm_metadata.specs.declared.fault.DecodeFault.TheVariants.{Magic}
 use Rattle.gm_metadata.specs.declared.version.Version.{Version}
-use Rattle.gm_taste.specs.declared.provider.Provider.{Provider}
-use Rattle.gm_taste.specs.declared.tasted.Reason.{Reason}
-use Rattle.gm_taste.specs.declared.tasted.Reason.TheVariants.{Decode, OtherName, OtherSize}
-use Rattle.gm_taste.specs.Verdicts.{is_magic, of_metadata, own_name, own_size, judged, verdict}
 
 -- the answer is metadata, or another fault than the first
 abbrev past_magic : {X : Type 0} → Result X DecodeFault → Bool

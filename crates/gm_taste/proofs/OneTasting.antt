@@ -1,17 +1,5 @@
 -- Of the same providers the same is told.
-use Rattle.std.proofs.Common.{◌≡◌, ◌∙◌, inl, inr, ⊎_elim, ℕ, ◌≤◌, Bool, true, refl, sym, ap, ap₂, subst, arith, List, [], ◌∷◌, map}
-use Rattle.gm_metadata.specs.declared.metadata.Metadata.{Metadata}
-use Rattle.gm_taste.specs.declared.provider.Provider.{Provider}
-use Rattle.gm_taste.specs.declared.tasted.LeftOut.{LeftOut}
-use Rattle.gm_taste.specs.declared.tasted.Member.{Member}
-use Rattle.gm_taste.specs.declared.tasted.Group.{Group}
-use Rattle.gm_taste.specs.declared.tasted.Tasted.{Tasted}
-use Rattle.gm_lists.specs.Ordered.{label_lt, Has, AscendsBy}
-use Rattle.gm_taste.specs.States.{state_of}
-use Rattle.gm_taste.specs.Tasted.{IsMember, IsGroup, IsTasted, SaysOf, SameProviders, Seen, seen}
-use Rattle.gm_taste.specs.Tasting.{key_lt}
-use Rattle.gm_lists.proofs.Order.{lt_trans, lt_irrefl}
-use Rattle.gm_lists.proofs.Lists.{Has-map, map-Has, AscendsBy-map}
+use Rattle.gm_taste.proofs.Common.{◌≡◌, ◌∙◌, inl, inr, ⊎_elim, ℕ, ◌≤◌, Bool, true, refl, sym, ap, ap₂, subst, arith, List, [], ◌∷◌, map, Metadata, Provider, LeftOut, Member, Group, Tasted, label_lt, Has, AscendsBy, state_of, IsMember, IsGroup, IsTasted, SaysOf, SameProviders, Seen, seen, key_lt, lt_trans, lt_irrefl, Has-map, map-Has, AscendsBy-map}
 use Rattle.gm_taste.proofs.Keys.{key_lt_trans, key_lt_irrefl}
 use Rattle.gm_taste.proofs.Outcome.{group_from}
 

@@ -1,27 +1,7 @@
 -- What is made of the providers in order is what the definition says of them.
-use Rattle.std.proofs.Common.{◌≡◌, ◌∙◌, ℕ, true, ◌==◌, refl, sym, ap, ap₂, subst, arith, List, filter, map, Some, Result, Ok, Err}
-use Rattle.std.specs.List.{filter_map}
-use Rattle.std.specs.List.Sorted.{IsPermutation, IsSortedByKey}
+use Rattle.gm_taste.proofs.Common.{◌≡◌, ◌∙◌, ℕ, true, ◌==◌, refl, sym, ap, ap₂, subst, arith, List, filter, map, Some, Result, Ok, Err, filter_map, IsPermutation, slice_cmp, IsPermutation-sym, nat_tests, Metadata, Provider, Reason, LeftOut, Member, Group, Tasted, Key, Taken, label_lt, Has, AscendsBy, Ascends, verdict, state_of, DistinctNames, SaysOf, IsLeftOut, IsMember, IsGreatest, IsGroup, IsTasted, taken_as, taken_by, left_as, left_by, key_of, is_of, member, Made, Grouped, Has-filter, filter-Has, AscendsBy-filter, Has-map, map-Has, AscendsBy-map, Has-filter_map, filter_map-Has, AscendsBy-filter_map, Has-permutation, sorted_ascends}
+use Rattle.std.specs.List.Sorted.{IsSortedByKey}
 use Rattle.std.specs.Ordering.{nat_cmp}
-use Rattle.std.specs.Cmp.Lexicographic.{slice_cmp}
-use Rattle.std.proofs.lemmas.List.Sorted.{IsPermutation-sym}
-use Rattle.std.proofs.lemmas.Bool.Decides.{nat_tests}
-use Rattle.gm_metadata.specs.declared.metadata.Metadata.{Metadata}
-use Rattle.gm_taste.specs.declared.provider.Provider.{Provider}
-use Rattle.gm_taste.specs.declared.tasted.Reason.{Reason}
-use Rattle.gm_taste.specs.declared.tasted.LeftOut.{LeftOut}
-use Rattle.gm_taste.specs.declared.tasted.Member.{Member}
-use Rattle.gm_taste.specs.declared.tasted.Group.{Group}
-use Rattle.gm_taste.specs.declared.tasted.Tasted.{Tasted}
-use Rattle.gm_taste.specs.declared.groups.Key.{Key}
-use Rattle.gm_taste.specs.declared.groups.Taken.{Taken}
-use Rattle.gm_lists.specs.Ordered.{label_lt, Has, AscendsBy, Ascends}
-use Rattle.gm_taste.specs.Verdicts.{verdict}
-use Rattle.gm_taste.specs.States.{state_of}
-use Rattle.gm_taste.specs.Tasted.{DistinctNames, SaysOf, IsLeftOut, IsMember, IsGreatest, IsGroup, IsTasted}
-use Rattle.gm_taste.specs.Tasting.{taken_as, taken_by, left_as, left_by, key_of, is_of, member, Made, Grouped}
-use Rattle.gm_lists.proofs.Lists.{Has-filter, filter-Has, AscendsBy-filter, Has-map, map-Has, AscendsBy-map, Has-filter_map, filter_map-Has, AscendsBy-filter_map}
-use Rattle.gm_lists.proofs.Sorting.{Has-permutation, sorted_ascends}
 use Rattle.gm_taste.proofs.Keys.{is_of_tells, is_of_from}
 use Rattle.gm_taste.proofs.GroupNumbers.{bound, greatest}
 

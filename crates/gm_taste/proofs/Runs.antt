@@ -1,13 +1,5 @@
 -- Lists that a sort left: what ties with the first stands first.
-use Rattle.std.proofs.Common.{◌≡◌, ◌∙◌, inl, inr, ⊎_elim, ℕ, suc, ◌+◌, ◌<◌, Bool, true, false, not, refl, sym, ap, subst, arith, true≢false, List, [], ◌∷◌, ◌++◌, length, get_or, take, drop, filter}
-use Rattle.std.specs.Cmp.{IsStrictWeakOrder}
-use Rattle.std.specs.List.{prefix_len}
-use Rattle.std.specs.List.Sorted.{IsSortedBy, ties}
-use Rattle.std.proofs.lemmas.Bool.{cases_Bool}
-use Rattle.std.proofs.lemmas.List.Sorted.{sorted_far}
-use Rattle.gm_lists.specs.Ordered.{Has, AscendsBy}
-use Rattle.gm_lists.proofs.Lists.{Has-push}
-use Rattle.gm_lists.proofs.Sorting.{Has-Contains}
+use Rattle.gm_taste.proofs.Common.{◌≡◌, ◌∙◌, inl, inr, ⊎_elim, ℕ, suc, ◌+◌, ◌<◌, Bool, true, false, not, refl, sym, ap, subst, arith, true≢false, List, [], ◌∷◌, ◌++◌, length, get_or, take, drop, filter, IsStrictWeakOrder, prefix_len, IsSortedBy, ties, cases_Bool, sorted_far, Has, AscendsBy, Has-push, Has-Contains}
 
 one_more : (n : ℕ) → 1 + n ≡ suc n
 one_more n = omega arith

@@ -1,21 +1,10 @@
 -- The canonical words of a command spell it, and so do they with `--` before the names.
-use Rattle.std.proofs.Common.{◌≡◌, ◌∙◌, ◌<◌, ◌^◌, ℕ, Bool, true, false, not, refl, ap, arith, List, [], ◌∷◌, ◌++◌, map, Some}
-use Rattle.std.specs.Prelude.{⊤, codes, option_map}
-use Rattle.std.specs.Fmt.{decimal}
+use Rattle.gm_words.proofs.Common.{◌≡◌, ◌∙◌, ◌<◌, ◌^◌, ℕ, Bool, true, false, not, refl, ap, arith, List, [], ◌∷◌, ◌++◌, map, Some, ⊤, codes, option_map, decimal, Row, Text, App, balance_name, is_label, Command, Label, Insert, Remove, Deactivate, Activate, Forget, Rebuild, Configure, Clear, Destroy, Lost, Advance, Adopt, Patch, joined, encode_lower, CommandFits, balance_of_word, on_where, words, HasNoFlags, IsNoFlag, guarded_words, label_at, of_component, of_mirror, of_provider, spelled, insert, label, on_component, on_mirror, on_provider, patch}
 use Rattle.clap.proofs.OnLiterals.{clap_on_literals}
-use Rattle.clap.specs.Walk.{Row, Text}
-use Rattle.clap.specs.Simple.{App}
-use Rattle.gm_metadata.specs.Balance.{balance_name}
-use Rattle.gm_metadata.specs.Labels.{is_label}
 use Rattle.gm_commands.specs.declared.command.NewComponent.{NewComponent}
 use Rattle.gm_commands.specs.declared.command.NewMirror.{NewMirror}
-use Rattle.gm_commands.specs.declared.command.Command.{Command}
-use Rattle.gm_commands.specs.declared.command.Command.TheVariants.{Label, Insert, Remove, Deactivate, Activate, Forget, Rebuild, Configure, Clear, Destroy, Lost, Advance, Adopt, Patch}
-use Rattle.gm_commands.specs.Sectors.{joined}
-use Rattle.hex.specs.Hex.{encode_lower}
-use Rattle.gm_commands.specs.Commands.{CommandFits, balance_of_word, on_where, words}
-use Rattle.gm_words.specs.Spelling.{HasNoFlags, IsNoFlag, command_of, guarded_words, insert_of, label_at, label_of, named_of, of_component, of_mirror, of_provider, patch_of, spelled}
-use Rattle.gm_words.specs.Table.{insert, label, name, names, on_component, on_mirror, on_provider, optional, patch, possible, wanted}
+use Rattle.gm_words.specs.Spelling.{command_of, insert_of, label_of, named_of, patch_of}
+use Rattle.gm_words.specs.Table.{name, names, optional, possible, wanted}
 use Rattle.gm_words.proofs.ConfigureWords.{configure_canonical, configure_guarded}
 use Rattle.gm_words.proofs.FoundCommand.{AreFound, Finds, component, found, leaf, named}
 use Rattle.gm_words.proofs.Several.{adopt_canonical, adopt_guarded, lost_canonical, lost_guarded}

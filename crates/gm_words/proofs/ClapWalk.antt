@@ -1,15 +1,11 @@
 -- How clap walks over words of which it looks at some alone: a word that doesn't begin with a
 -- hyphen is a value or a name, whatever else it is, and after the word of a command every word
 -- goes to that command.
-use Rattle.std.proofs.Common.{◌≡◌, ◌∙◌, ℕ, Bool, true, false, refl, sym, ap, ap₂, List, [], ◌∷◌, ◌++◌, map, Option, Some, None, is_some, append-nil, append_assoc}
-use Rattle.std.specs.Prelude.{⊤, if◌then◌else◌, fold}
-use Rattle.clap.specs.Kinds.{Kinds, or_else}
-use Rattle.clap.specs.Walk.{Held, Names, Row, Rule, Step, Text, Waiting, idle, option, positional, Walk, value, after_step, finished, nothing_held, plain_word, rows_after, settled, walk, walk_from, walked, walked_from, word_met}
-use Rattle.clap.specs.Faults.{built_fault, check_fault, defaults_fault, entered_fault, fault_of, level_fault, settle_fault, step_fault, turn_fault, walk_fault, word_fault}
-use Rattle.clap.specs.Simple.{App, Shape, built, entered, names_of, subcommand_of}
-use Rattle.gm_commands.specs.declared.command.Command.{Command}
-use Rattle.gm_words.specs.Spelling.{IsNoFlag, command_of, spelled, taken}
-use Rattle.gm_words.specs.Table.{table}
+use Rattle.gm_words.proofs.Common.{◌≡◌, ◌∙◌, ℕ, Bool, true, false, refl, sym, ap, ap₂, List, [], ◌∷◌, ◌++◌, map, Option, Some, None, is_some, append-nil, append_assoc, ⊤, if◌then◌else◌, fold, Kinds, or_else, Held, Names, Row, Rule, Step, Text, Waiting, idle, option, positional, Walk, value, after_step, finished, nothing_held, plain_word, rows_after, settled, walk, walk_from, walked_from, word_met, built_fault, check_fault, defaults_fault, entered_fault, level_fault, settle_fault, step_fault, turn_fault, word_fault, App, Shape, built, entered, names_of, Command, IsNoFlag, command_of, taken, table}
+use Rattle.clap.specs.Walk.{walked}
+use Rattle.clap.specs.Faults.{fault_of, walk_fault}
+use Rattle.clap.specs.Simple.{subcommand_of}
+use Rattle.gm_words.specs.Spelling.{spelled}
 
 -- ---- words that clap needn't look at
 

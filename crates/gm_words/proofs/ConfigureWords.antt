@@ -1,21 +1,8 @@
 -- The words of configure.
-use Rattle.std.proofs.Common.{◌≡◌, ◌∙◌, ◌<◌, ◌^◌, ℕ, Bool, true, false, refl, sym, ap, append_assoc, arith, List, [], ◌∷◌, ◌++◌, map, Option, Some, None}
-use Rattle.std.specs.Prelude.{⊤, IfSome, codes, fold, if◌then◌else◌, option_map}
-use Rattle.std.specs.Fmt.{decimal}
-use Rattle.std.specs.List.{list_all}
+use Rattle.gm_words.proofs.Common.{◌≡◌, ◌∙◌, ◌<◌, ◌^◌, ℕ, Bool, true, false, refl, sym, ap, append_assoc, arith, List, [], ◌∷◌, ◌++◌, map, Option, Some, None, ⊤, IfSome, codes, fold, if◌then◌else◌, option_map, decimal, list_all, Kinds, or_else, first_of, nothing_held, Held, Row, Text, has_row, is_empty, is_pending, pushed, settled, walk_from, Shape, check_fault, balance_name, BalanceWord, Preference, Settings, Configure, CommandFits, PreferenceFits, SliceFits, words, balance_of_word, balance_words, given_switch, on_where, preference_words, setting_words, slice_words, HasNoFlags, IsNoFlag, guarded_words, guarded_preference, guarded_settings, label_at, settings_at, spelled, configure}
 use Rattle.clap.proofs.OnLiterals.{clap_on_literals}
-use Rattle.clap.specs.Kinds.{Kinds, or_else}
-use Rattle.clap.specs.Walk.{first_of, nothing_held, Held, Row, Text, has_row, is_empty, is_pending, pushed, settled, walk_from}
-use Rattle.clap.specs.Simple.{Shape}
-use Rattle.clap.specs.Faults.{check_fault}
-use Rattle.gm_metadata.specs.Balance.{balance_name}
-use Rattle.gm_commands.specs.declared.command.BalanceWord.{BalanceWord}
-use Rattle.gm_commands.specs.declared.command.Preference.{Preference}
-use Rattle.gm_commands.specs.declared.command.Settings.{Settings}
-use Rattle.gm_commands.specs.declared.command.Command.TheVariants.{Configure}
-use Rattle.gm_commands.specs.Commands.{CommandFits, PreferenceFits, SliceFits, words, balance_of_word, balance_words, given_switch, on_where, preference_words, setting_words, slice_words}
-use Rattle.gm_words.specs.Spelling.{HasNoFlags, IsNoFlag, guarded_words, command_of, configure_of, guarded_preference, guarded_settings, label_at, settings_at, spelled}
-use Rattle.gm_words.specs.Table.{configure, name, names, optional, possible, wanted}
+use Rattle.gm_words.specs.Spelling.{command_of, configure_of}
+use Rattle.gm_words.specs.Table.{name, names, optional, possible, wanted}
 use Rattle.gm_words.proofs.FoundCommand.{leaf, named}
 use Rattle.gm_words.proofs.ReadValues.{balance_no_flag, decimal_no_flag, switch_no_flag, label_read, settings_read}
 use Rattle.gm_words.proofs.Options.{AreOptions, Ends, IsOption, Slot, Stands, all_new, apart, apart_option, attached, attached_option, begins, ends_by, first_in, first_use, found_in, found_more, given_or_none, given_words, held_fault, none_in, options_step, plain_more, said_in, said_told, value_at}

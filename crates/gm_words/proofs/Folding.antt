@@ -1,7 +1,5 @@
 -- A step of a loop that folds a list.
-use Rattle.std.proofs.Common.{◌≡◌, ◌∙◌, ◌+◌, ◌<◌, ℕ, List, ap, sym, get_or, length, take}
-use Rattle.std.specs.Prelude.{fold}
-use Rattle.std.proofs.lemmas.List.{take_more}
+use Rattle.gm_words.proofs.Common.{◌≡◌, ◌∙◌, ◌+◌, ◌<◌, ℕ, List, ap, sym, get_or, length, take, fold, take_more}
 use Rattle.std.proofs.lemmas.List.Sums.{fold-append}
 
 pub fold_more : {A B : Type 0} (f : B → A → B) (a : B) (xs : List A) (i : ℕ) (d : A) (now : B)

@@ -1,8 +1,5 @@
 -- What clap finds for a command of the table.
-use Rattle.std.proofs.Common.{◌≡◌, Bool, true, false, List, [], ◌∷◌, map, Some}
-use Rattle.std.specs.Prelude.{⊤, codes}
-use Rattle.clap.specs.Walk.{Row, Text, finished, first_of}
-use Rattle.clap.specs.Simple.{App, Shape, built_leaf, inherited}
+use Rattle.gm_words.proofs.Common.{◌≡◌, Bool, true, false, List, [], ◌∷◌, map, Some, ⊤, codes, Row, Text, finished, first_of, App, Shape, built_leaf, inherited}
 use Rattle.gm_words.proofs.ClapWalk.{Said, app, begun, ended, exact, leaf_fault, plain, said_fault}
 
 -- what clap makes of a command of the table

@@ -1,8 +1,6 @@
 -- Texts that grow by one piece at a time.
-use Rattle.std.proofs.Common.{◌≡◌, ◌∙◌, ℕ, ◌+◌, ◌<◌, List, [], ◌∷◌, ◌++◌, take, length, get_or, flat_map, map, refl, sym, ap}
-use Rattle.std.specs.List.{join_by}
-use Rattle.std.proofs.lemmas.List.Folds.{flat_map-map}
-use Rattle.std.proofs.lemmas.List.{append_assoc, flat_map_more, map-append, take_more}
+use Rattle.gm_words.proofs.Common.{◌≡◌, ◌∙◌, ℕ, ◌+◌, ◌<◌, List, [], ◌∷◌, ◌++◌, take, length, get_or, flat_map, map, refl, sym, ap, join_by, flat_map-map, flat_map_more, map-append, take_more}
+use Rattle.std.proofs.lemmas.List.{append_assoc}
 
 -- the pieces of one element more
 pub flat_map_next : {X A : Type 0} (f : X → List A) (all : List X) (i : ℕ) (x : X) → i < length all

@@ -1,10 +1,6 @@
 -- Names that are joined by commas, and blocks by empty lines.
-use Rattle.std.proofs.Common.{◌≡◌, ℕ, List, [], ◌∷◌, codes, length, refl}
-use Rattle.std.specs.Borrow.{Bor}
-use Rattle.std.specs.List.{join_by}
-use Rattle.gm_state.specs.declared.records.Mirror.{Mirror}
-use Rattle.gm_words.specs.Lines.{joined, line, texts}
-use Rattle.gm_words.specs.Listing.{blocks}
+use Rattle.gm_words.proofs.Common.{◌≡◌, ℕ, List, [], ◌∷◌, codes, length, refl, Bor, join_by, Mirror, line, blocks}
+use Rattle.gm_words.specs.Lines.{joined, texts}
 use Rattle.gm_words.proofs.GrownText.{join_of}
 
 pub joined_some : (names : List (Bor (List ℕ))) → (length names ≡ 0 → ⊥)

@@ -1,4 +1,5 @@
 pub mod Canonical
+pub mod Common
 pub mod OneCommand
 pub mod Options
 pub mod Rows

@@ -1,24 +1,12 @@
 -- A command by itself reads its own words as the whole table reads them after its word.
-use Rattle.std.proofs.Common.{◌≡◌, ◌∙◌, true, false, refl, sym, ap, subst, List, [], ◌∷◌, Some, find, ⊎_elim}
-use Rattle.std.specs.Prelude.{codes, map}
-use Rattle.std.specs.Borrow.{Bor}
-use Rattle.std.specs.Str.{bytes_eq}
+use Rattle.gm_words.proofs.Common.{◌≡◌, ◌∙◌, true, false, refl, sym, ap, subst, List, [], ◌∷◌, Some, find, ⊎_elim, codes, map, Bor, bytes_eq, level_fault, Kinds, or_else, Text, nothing_held, rows_after, App, Shape, built, label_of, is_simple, is_simple_and_free, and_parts, ReadsAlike, alone, Kind, Provider, Component, Several}
 use Rattle.clap.proofs.FaultLemmas.{leaf_fault}
 use Rattle.clap.proofs.OnLiterals.{clap_on_literals}
-use Rattle.clap.specs.Faults.{level_fault}
-use Rattle.clap.specs.Kinds.{Kinds, or_else}
-use Rattle.clap.specs.Walk.{Text, nothing_held, rows_after}
-use Rattle.clap.specs.Simple.{App, Shape, built, label_of}
-use Rattle.clap.specs.Words.{is_simple, is_simple_and_free}
 use Rattle.gm_lists.specs.Ordered.{Has as IsAmong}
 use Rattle.gm_lists.proofs.Finding.{found}
 use Rattle.gm_lists.proofs.Order.{same_is}
-use Rattle.std.proofs.lemmas.Bool.{and_parts}
-use Rattle.gm_words.specs.Alike.{ReadsAlike}
-use Rattle.gm_words.specs.Kinds.{alone}
 use Rattle.gm_words.specs.Table.{name, names, optional, possible, wanted}
-use Rattle.gm_words.specs.declared.clap_table.Kind.{Kind}
-use Rattle.gm_words.specs.declared.clap_table.Kind.TheVariants.{Label, Insert, Configure, Patch, Mirror, Provider, Component, Several}
+use Rattle.gm_words.specs.declared.clap_table.Kind.TheVariants.{Label, Insert, Configure, Patch, Mirror}
 use Rattle.gm_words.proofs.Canonical.{has_label, has_insert, has_remove, has_deactivate, has_activate, has_forget, has_rebuild, has_advance, has_clear, has_destroy, has_patch}
 use Rattle.gm_words.proofs.ConfigureWords.{has_configure}
 use Rattle.gm_words.proofs.Several.{has_lost, has_adopt}

@@ -1,19 +1,7 @@
 -- What clap's walk makes of an option that may be left out, in front of the rest of a command's own
 -- words.
-use Rattle.std.proofs.Common.{◌≡◌, ◌∙◌, ◌&&◌, Bool, true, false, not, refl, sym, ap, ap₂, subst, List, [], ◌∷◌, ◌++◌, Option, Some, None, append-nil, append_assoc, inl, inr, map}
-use Rattle.std.specs.Prelude.{⊤, IfSome, codes, fold, if◌then◌else◌}
-use Rattle.std.specs.List.{list_all}
-use Rattle.std.specs.Str.{bytes_eq}
-use Rattle.std.proofs.lemmas.Bool.{cases_Bool, or_from}
-use Rattle.std.proofs.lemmas.List.{map-append}
-use Rattle.std.proofs.lemmas.List.Folds.{list_any-append}
-use Rattle.clap.specs.Kinds.{Kinds, or_else}
-use Rattle.clap.specs.Walk.{Held, Row, Text, Walk, finished, first_of, has_row, is_empty, settled, walk_from}
-use Rattle.clap.specs.Faults.{check_fault, defaults_fault, repeat_fault, settle_fault}
-use Rattle.clap.specs.Simple.{Shape}
-use Rattle.clap.proofs.WalkLemmas.{both}
+use Rattle.gm_words.proofs.Common.{◌≡◌, ◌∙◌, ◌&&◌, Bool, true, false, not, refl, sym, ap, ap₂, subst, List, [], ◌∷◌, ◌++◌, Option, Some, None, append-nil, append_assoc, inl, inr, map, ⊤, IfSome, codes, fold, if◌then◌else◌, list_all, bytes_eq, cases_Bool, or_from, map-append, list_any-append, Kinds, or_else, Held, Row, Text, Walk, finished, first_of, has_row, is_empty, settled, walk_from, check_fault, defaults_fault, repeat_fault, settle_fault, Shape, both, IsNoFlag}
 use Rattle.gm_words.proofs.Rows.{added, added_new, no_defaults, no_defaults_fault, row}
-use Rattle.gm_words.specs.Spelling.{IsNoFlag}
 use Rattle.gm_words.proofs.ClapWalk.{ArePlain, Said, exact, leaf_fault, plain, said_fault, said_walked, text_of}
 
 -- ---- options and their words

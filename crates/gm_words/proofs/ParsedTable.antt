@@ -1,19 +1,12 @@
 -- What is computed of the table, and what clap's clauses say there.
-use Rattle.std.proofs.Common.{◌≡◌, ◌≢◌, ◌∙◌, Bool, true, refl, sym, ap, ap₂, arith, subst, length, List, [], ◌∷◌, Option, Some, None, Result, Ok, Err, IfOk, IfErr, MatchResult, inl, inr, ℕ}
-use Rattle.std.specs.Prelude.{MatchOption, if◌then◌else◌, option_and_then, option_map}
-use Rattle.std.specs.Borrow.{Bor}
-use Rattle.std.specs.Result.{result_ok}
-use Rattle.clap.specs.Walk.{Text}
-use Rattle.clap.specs.Simple.{App, matches_of}
-use Rattle.clap.specs.Words.{FailsBy, HasKind, IsAmong, Kinds, Row, fault_of, is_simple, is_simple_and_free, kind_of, subcommand_of, subcommand_rows_of}
+use Rattle.gm_words.proofs.Common.{◌≡◌, ◌≢◌, ◌∙◌, Bool, true, refl, sym, ap, ap₂, arith, subst, length, List, [], ◌∷◌, Option, Some, None, Result, Ok, Err, IfOk, IfErr, MatchResult, inl, inr, ℕ, MatchOption, if◌then◌else◌, option_and_then, option_map, Bor, result_ok, Text, App, matches_of, FailsBy, HasKind, IsAmong, fault_of, is_simple, is_simple_and_free, kind_of, subcommand_of, subcommand_rows_of, Command, ReadsAlike, command_of, taken, table}
+use Rattle.clap.specs.Words.{Kinds, Row}
 use Rattle.clap.specs.declared.ArgMatches.{ArgMatches}
 use Rattle.clap.specs.declared.Error.{Error}
 use Rattle.clap.specs.declared.error.ErrorKind.TheVariants.{OutOfMemory}
 use Rattle.clap.proofs.OnLiterals.{clap_on_literals}
-use Rattle.gm_commands.specs.declared.command.Command.{Command}
-use Rattle.gm_words.specs.Alike.{ReadsAlike}
-use Rattle.gm_words.specs.Spelling.{command_of, spelled, taken}
-use Rattle.gm_words.specs.Table.{name, names, optional, possible, table, wanted}
+use Rattle.gm_words.specs.Spelling.{spelled}
+use Rattle.gm_words.specs.Table.{name, names, optional, possible, wanted}
 use Rattle.gm_words.proofs.ReadValues.{nonzero}
 
 pub table_is_simple : is_simple table ≡ true

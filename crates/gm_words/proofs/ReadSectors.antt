@@ -1,16 +1,10 @@
 -- Sectors that are read from the digits that the canonical words have.
-use Rattle.std.proofs.Common.{◌≡◌, ◌∙◌, ◌<◌, ◌≤◌, ◌*◌, ◌/◌, ◌%◌, ◌==◌, ℕ, zero, suc, true, refl, ap, ap₂, arith, List, [], ◌∷◌, ◌++◌, length, Option, Some, None, Ok, take, drop, eq-eqb, lt-ltb, le-leb, eqb-true, length-append, IsTrue}
-use Rattle.std.specs.Prelude.{if◌then◌else◌}
-use Rattle.std.specs.List.{list_all}
-use Rattle.std.proofs.lemmas.Bool.{and_parts}
+use Rattle.gm_words.proofs.Common.{◌≡◌, ◌∙◌, ◌<◌, ◌≤◌, ◌*◌, ◌/◌, ◌%◌, ◌==◌, ℕ, zero, suc, true, refl, ap, ap₂, arith, List, [], ◌∷◌, ◌++◌, length, Option, Some, None, Ok, take, drop, eq-eqb, lt-ltb, le-leb, eqb-true, length-append, IsTrue, if◌then◌else◌, list_all, and_parts, encode_lower, Row, first_of, is_bytes, is_sector, joined, is_count, is_digit, sectors_of, ◌>>=◌, IsNoFlag}
 use Rattle.std.specs.Simd.{first_chunks}
-use Rattle.hex.specs.Hex.{encode_lower}
 use Rattle.hex.proofs.HexLemmas.{decode_of-encode_lower}
-use Rattle.clap.specs.Walk.{Row, first_of}
-use Rattle.gm_commands.specs.Sectors.{is_bytes, is_sector, joined}
 use Rattle.gm_commands.proofs.JoinedSectors.{bytes_are, digits_pass, joined_bytes}
-use Rattle.gm_words.specs.Digits.{is_count, is_digit, sectors_in, sectors_of}
-use Rattle.gm_words.specs.Spelling.{◌>>=◌, IsNoFlag, sectors_at}
+use Rattle.gm_words.specs.Digits.{sectors_in}
+use Rattle.gm_words.specs.Spelling.{sectors_at}
 
 -- bytes that are cut into whole sectors
 pub cut : (bytes : List ℕ) (sectors : List (List ℕ)) (r : Option (List (List ℕ)))

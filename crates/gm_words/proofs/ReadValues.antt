@@ -1,25 +1,13 @@
 -- Values that are read from texts.
-use Rattle.std.proofs.Common.{◌≡◌, ◌∙◌, ◌<◌, ◌^◌, ◌&&◌, ◌==◌, not, ℕ, Bool, true, false, refl, ap, ap₂, subst, inl, inr, arith, length, codes, List, [], ◌∷◌, Option, Some, None, Result, Ok, Err, lt-ltb, ltb-true, nat_lt}
-use Rattle.std.specs.Prelude.{IfSome, if◌then◌else◌, option_map}
-use Rattle.std.specs.Fmt.{decimal}
-use Rattle.std.specs.List.{list_all}
+use Rattle.gm_words.proofs.Common.{◌≡◌, ◌∙◌, ◌<◌, ◌^◌, ◌&&◌, ◌==◌, not, ℕ, Bool, true, false, refl, ap, ap₂, subst, inl, inr, arith, length, codes, List, [], ◌∷◌, Option, Some, None, Result, Ok, Err, lt-ltb, ltb-true, nat_lt, IfSome, if◌then◌else◌, option_map, decimal, list_all, result_ok, cases_Bool, Row, first_of, both, balance_name, is_label, BalanceWord, Preference, Settings, PreferenceFits, SliceFits, balance_of_word, on_where, ◌>>=◌, IsNoFlag, if_given}
 use Rattle.std.specs.Char.{digit_value}
-use Rattle.std.specs.Result.{result_ok}
 use Rattle.std.specs.Str.Parse.{AllDigits, ParsesUnsigned, digits_value, without_leading_plus}
-use Rattle.std.proofs.lemmas.Bool.{cases_Bool, eqb-true}
+use Rattle.std.proofs.lemmas.Bool.{eqb-true}
 use Rattle.std.proofs.lemmas.Fmt.{decimal_is_IsNumeral}
 use Rattle.clap.specs.ValueTests.{is_numeral}
-use Rattle.clap.specs.Walk.{Row, first_of}
-use Rattle.clap.proofs.WalkLemmas.{both}
-use Rattle.gm_metadata.specs.Balance.{balance_name}
-use Rattle.gm_metadata.specs.Labels.{is_label}
 use Rattle.gm_metadata.specs.declared.flags.MirrorFlags.{MirrorFlags}
-use Rattle.gm_commands.specs.declared.command.BalanceWord.{BalanceWord}
 use Rattle.gm_commands.specs.declared.command.BalanceWord.TheVariants.{Load, Prefer, RoundRobin, Split}
-use Rattle.gm_commands.specs.declared.command.Preference.{Preference}
-use Rattle.gm_commands.specs.declared.command.Settings.{Settings}
-use Rattle.gm_commands.specs.Commands.{PreferenceFits, SliceFits, balance_of_word, on_where}
-use Rattle.gm_words.specs.Spelling.{◌>>=◌, IsNoFlag, balance_at, balance_in, component_at, flags_at, if_given, label_at, label_in, number_at, number_below, preference_in, priority_at, settings_at, slice_at, slice_in, switch_at, switch_in}
+use Rattle.gm_words.specs.Spelling.{balance_at, balance_in, component_at, flags_at, label_at, label_in, number_at, number_below, preference_in, priority_at, settings_at, slice_at, slice_in, switch_at, switch_in}
 
 all_digits : (ds : List ℕ) → list_all (λ d. nat_lt (digit_value d) 10) ds ≡ true → AllDigits 10 ds
 all_digits [] e = tt

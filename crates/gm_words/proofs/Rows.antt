@@ -1,16 +1,7 @@
 -- Rows of what clap found: one is added, and the defaults add none.
-use Rattle.std.proofs.Common.{◌≡◌, ◌∙◌, true, false, refl, sym, ap, List, [], ◌∷◌, ◌++◌, Some, None, arith, inl, inr, length, true≢false}
-use Rattle.std.specs.Prelude.{fold, if◌then◌else◌}
-use Rattle.std.specs.List.{list_all}
-use Rattle.std.specs.Str.{bytes_eq}
-use Rattle.std.proofs.lemmas.Bool.{cases_Bool, or_parts}
-use Rattle.std.proofs.Math.Bool.{or-true}
-use Rattle.clap.specs.Walk.{Row, Rule, Text, default_rows, has_row, is_empty, reading_by, with_default, with_values, without}
+use Rattle.gm_words.proofs.Common.{◌≡◌, ◌∙◌, true, false, refl, sym, ap, List, [], ◌∷◌, ◌++◌, Some, None, arith, inl, inr, length, true≢false, fold, if◌then◌else◌, list_all, bytes_eq, cases_Bool, or_parts, or-true, Row, Rule, Text, default_rows, has_row, is_empty, reading_by, with_default, with_values, without, CommandLine, AsWritten, both}
 use Rattle.clap.specs.Faults.{defaults_fault}
 use Rattle.clap.specs.Takes.{is_given}
-use Rattle.clap.specs.declared.parser.matches.ValueSource.TheVariants.{CommandLine}
-use Rattle.clap.specs.declared.builder.value_parser.Reading.TheVariants.{AsWritten}
-use Rattle.clap.proofs.WalkLemmas.{both}
 use Rattle.gm_words.proofs.ReadValues.{nonzero}
 
 -- what is found of an option with this value

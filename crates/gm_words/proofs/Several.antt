@@ -1,24 +1,9 @@
 -- The words of the commands on a mirror and one or more providers.
-use Rattle.std.proofs.Common.{◌≡◌, ◌∙◌, ◌==◌, ◌+◌, ◌<◌, ◌≤◌, ℕ, Bool, true, false, not, refl, sym, ap, ap₂, arith, List, [], ◌∷◌, ◌++◌, get_or, length, take, map, Option, Some, None, append_assoc, take_all}
-use Rattle.std.specs.Prelude.{codes, fold, if◌then◌else◌, option_map}
-use Rattle.std.specs.Borrow.{Bor}
-use Rattle.std.specs.List.{All, list_all}
-use Rattle.std.proofs.lemmas.Bool.{and_from}
-use Rattle.std.proofs.lemmas.List.{map_push, take_more}
+use Rattle.gm_words.proofs.Common.{◌≡◌, ◌∙◌, ◌==◌, ◌+◌, ◌<◌, ◌≤◌, ℕ, Bool, true, false, not, refl, sym, ap, ap₂, arith, List, [], ◌∷◌, ◌++◌, get_or, length, take, map, Option, Some, None, append_assoc, take_all, codes, fold, if◌then◌else◌, option_map, Bor, All, list_all, and_from, map_push, take_more, list_all-append, list_all-map, list_all_at, Kinds, or_else, Shape, Row, Text, Walk, finished, positional, texts, CommandLine, AsWritten, is_label, Command, Adopt, Lost, CommandFits, words, HasNoFlags, IsNoFlag, guarded_words, several_of, spelled, on_several}
 use Rattle.std.proofs.lemmas.List.Elements.{All-head, All-tail}
-use Rattle.std.proofs.lemmas.List.Folds.{list_all-append, list_all-map, list_all_at}
 use Rattle.clap.proofs.OnLiterals.{clap_on_literals}
-use Rattle.clap.specs.Kinds.{Kinds, or_else}
-use Rattle.clap.specs.Simple.{Shape}
-use Rattle.clap.specs.Walk.{Row, Text, Walk, finished, positional, texts}
-use Rattle.clap.specs.declared.parser.matches.ValueSource.TheVariants.{CommandLine}
-use Rattle.clap.specs.declared.builder.value_parser.Reading.TheVariants.{AsWritten}
-use Rattle.gm_metadata.specs.Labels.{is_label}
-use Rattle.gm_commands.specs.declared.command.Command.{Command}
-use Rattle.gm_commands.specs.declared.command.Command.TheVariants.{Adopt, Lost}
-use Rattle.gm_commands.specs.Commands.{CommandFits, words}
-use Rattle.gm_words.specs.Spelling.{HasNoFlags, IsNoFlag, command_of, guarded_words, providers_at, providers_in, several_at, several_of, spelled}
-use Rattle.gm_words.specs.Table.{name, names, on_several, optional, possible, wanted}
+use Rattle.gm_words.specs.Spelling.{command_of, providers_at, providers_in, several_at}
+use Rattle.gm_words.specs.Table.{name, names, optional, possible, wanted}
 use Rattle.gm_words.proofs.FoundCommand.{leaf, named}
 use Rattle.gm_words.proofs.Options.{Ends}
 use Rattle.gm_words.proofs.Rows.{row}

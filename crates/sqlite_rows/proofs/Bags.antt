@@ -1,18 +1,7 @@
 -- A table that keeps records, and what an edit of its rows makes of them.
-use Rattle.std.proofs.Common.{◌≡◌, ℕ, Bool, false, not, List, [], ◌∷◌, map, filter, IsTrue, refl, ap, subst, subst₂, ◌∙◌, IsPermutation, bytes_eq}
-use Rattle.std.proofs.lemmas.List.Sorted.{IsPermutation-refl, IsPermutation-trans, IsPermutation-cons, IsPermutation-map, IsPermutation-sym}
-use Rattle.std.proofs.lemmas.List.Elements.{filter_agree}
-use Rattle.sqlite.specs.Order.{Row, column}
-use Rattle.sqlite.specs.Collation.TheVariants.{Binary}
-use Rattle.sqlite.specs.declared.types.Value.TheVariants.{Text}
-use Rattle.sqlite_trees.specs.Tree.{put_row, rowid}
-use Rattle.sqlite_trees.specs.View.{is_int}
+use Rattle.sqlite_rows.proofs.Common.{◌≡◌, ℕ, Bool, false, not, List, [], ◌∷◌, map, filter, IsTrue, refl, ap, subst, subst₂, ◌∙◌, IsPermutation, bytes_eq, IsPermutation-refl, IsPermutation-trans, IsPermutation-cons, IsPermutation-map, IsPermutation-sym, filter_agree, Row, column, Binary, Text, put_row, rowid, is_int, filter-map, IsPermutation-filter, IsShaped-filter, IsShaped-put_row, is_taken, equal, columns}
 use Rattle.sqlite_trees.specs.declared.store.Shape.TheVariants as shape
-use Rattle.sqlite_trees.proofs.ListLemmas.{filter-map, IsPermutation-filter}
-use Rattle.sqlite_trees.proofs.TreeLemmas.{IsShaped-filter, IsShaped-put_row}
-use Rattle.sqlite_rules.specs.Edit.{is_taken}
-use Rattle.sqlite_schema.specs.Rules.{equal}
-use Rattle.sqlite_rows.specs.Keeps.{Keeps, columns}
+use Rattle.sqlite_rows.specs.Keeps.{Keeps}
 use Rattle.sqlite_rows.proofs.RowLemmas.{put_fresh}
 use Rattle.sqlite_rows.proofs.ValueLemmas.{texts_equal}
 

@@ -1,18 +1,5 @@
 -- What a CREATE TABLE makes of a database, over any schema.
-use Rattle.std.proofs.Common.{◌≡◌, ℕ, false, List, [], Option, None, Ok, sym, ap, subst, ◌∙◌}
-use Rattle.sqlite.specs.Order.{Row}
-use Rattle.sqlite.specs.Table.{Table}
-use Rattle.sqlite.specs.Schema.{Schema}
-use Rattle.sqlite.specs.Tree.{Trees}
-use Rattle.sqlite.specs.Command.TheVariants.{CreateTable}
-use Rattle.sqlite.specs.Compile.{table_defined_by}
-use Rattle.sqlite.specs.Change.{created, next_tree, KeepsRows}
-use Rattle.sqlite.specs.Does.{Tally, Does, lacks_sequence}
-use Rattle.sqlite.specs.Effect.{Database}
-use Rattle.sqlite.specs.Listing.{understood}
-use Rattle.sqlite.specs.declared.run.Mode.{Mode}
-use Rattle.sqlite.specs.State.{State, mode_of, Writes, ExecutesInside}
-use Rattle.sqlite.proofs.Callers.{IsPlain, command_of, statement_of, runs_as}
+use Rattle.sqlite_rows.proofs.Common.{◌≡◌, ℕ, false, List, [], Option, None, Ok, sym, ap, subst, ◌∙◌, Row, Table, Schema, Trees, CreateTable, table_defined_by, created, next_tree, KeepsRows, Tally, Does, lacks_sequence, Database, understood, Mode, State, mode_of, Writes, ExecutesInside, IsPlain, command_of, statement_of, runs_as}
 use Rattle.sqlite_rows.proofs.Inserting.{went, same_value}
 
 -- one table more, with no rows, and the others as they were

@@ -1,26 +1,6 @@
 -- What a DELETE makes of a database, over any schema.
-use Rattle.std.proofs.Common.{◌≡◌, ◌≢◌, ℕ, Bool, true, not, List, [], ◌∷◌, map, filter, Option, None, Ok, refl, sym, ap, subst, ◌∙◌, IsPermutation}
-use Rattle.std.specs.List.{AllByRecursion}
-use Rattle.sqlite.specs.Order.{Row, column}
-use Rattle.sqlite.specs.declared.types.Value.TheVariants.{Null}
-use Rattle.sqlite.specs.Term.{Term, col, holds}
-use Rattle.sqlite.specs.Table.{Table}
-use Rattle.sqlite.specs.Schema.{Schema}
-use Rattle.sqlite.specs.Command.TheVariants.{Delete}
-use Rattle.sqlite.specs.Query.{IsAnswer}
-use Rattle.sqlite.specs.Tree.{Trees}
-use Rattle.sqlite_trees.specs.View.{IsShaped}
+use Rattle.sqlite_rows.proofs.Common.{◌≡◌, ◌≢◌, ℕ, Bool, true, not, List, [], ◌∷◌, map, filter, Option, None, Ok, refl, sym, ap, subst, ◌∙◌, IsPermutation, AllByRecursion, Row, column, Null, Term, col, holds, Table, Schema, Delete, IsAnswer, Trees, IsShaped, filter_all, filter_none, all_of, edit_of, works, ids_of, Given, Tally, OnRows, Written, Task, Deletes, Database, Mode, one_step}
 use Rattle.sqlite_trees.specs.declared.store.Shape.TheVariants as shape
-use Rattle.sqlite_trees.proofs.ListLemmas.{filter_all, filter_none, all_of}
-use Rattle.sqlite.specs.Edit.{edit_of}
-use Rattle.sqlite_rules.specs.Action.{works}
-use Rattle.sqlite_rules.specs.Calls.{ids_of}
-use Rattle.sqlite.specs.Rowids.TheVariants.{Given}
-use Rattle.sqlite.specs.Does.{Tally, OnRows}
-use Rattle.sqlite.specs.Rows.{Written, Task, Deletes}
-use Rattle.sqlite.specs.Effect.{Database}
-use Rattle.sqlite.specs.declared.run.Mode.{Mode}
-use Rattle.sqlite.proofs.Callers.{one_step}
 use Rattle.sqlite_rows.proofs.Inserting.{went, same_value}
 use Rattle.sqlite_rows.proofs.Finding.{scan, overlaid, found, found_all}
 use Rattle.sqlite_rows.proofs.Keyed.{left_are}

@@ -1,26 +1,12 @@
 -- Why a query of the tables fails, if its text is known.
-use Rattle.std.proofs.Common.{◌≡◌, ◌⊎◌, inl, inr, ℕ, Bool, true, false, ◌&&◌, eqb, List, [], length, IsSome, IsTrue, Result, Ok, Err, refl, sym, ap, subst, ◌∙◌}
-use Rattle.std.proofs.lemmas.List.{append-nil}
+use Rattle.sqlite_rows.proofs.Common.{◌≡◌, ◌⊎◌, inl, inr, ℕ, Bool, true, false, ◌&&◌, eqb, List, [], length, IsSome, IsTrue, Result, Ok, Err, refl, sym, ap, subst, ◌∙◌, append-nil, true≢false, eqb-true, leb-true, Row, Trees, Schema, Query, Database, RefusesToRead, understood, reads_listing, listing_schema, IsSourceOf, Select, Error, State, IsNoStatement, Fails, IsPlain, command_of, Compiled, QueryOverflows, accepts_program}
 use Rattle.std.proofs.Math.Dec.{leb}
-use Rattle.std.proofs.lemmas.Bool.{true≢false, eqb-true, leb-true}
 use Rattle.sqlite_disk.specs.Disk.{MoreFaults}
 use Rattle.sqlite_trees.specs.declared.error.StoreError.TheVariants.{OutOfMemory, Io, Corrupt, Full, Broken, Unstorable}
-use Rattle.sqlite.specs.Order.{Row}
-use Rattle.sqlite.specs.Tree.{Trees}
-use Rattle.sqlite.specs.Schema.{Schema}
-use Rattle.sqlite.specs.Query.{Query}
-use Rattle.sqlite.specs.Effect.{Database, RefusesToRead}
-use Rattle.sqlite.specs.Listing.{understood, reads_listing, listing_schema, IsSourceOf}
-use Rattle.sqlite.specs.Command.TheVariants.{Select}
-use Rattle.sqlite.specs.declared.error.Error.{Error}
 use Rattle.sqlite.specs.declared.error.Error.TheVariants.{SqliteFailure}
 use Rattle.sqlite.specs.declared.error.ErrorCode.TheVariants as code
-use Rattle.sqlite.specs.State.{State, FailsToQuery, IsNotRun, IsNoStatement, Fails}
-use Rattle.sqlite.proofs.Callers.{IsPlain, command_of}
-use Rattle.sqlite_resolve.specs.declared.compiled.Compiled.{Compiled}
+use Rattle.sqlite.specs.State.{FailsToQuery, IsNotRun}
 use Rattle.sqlite_resolve.specs.declared.error.CompileError.{CompileError}
-use Rattle.sqlite_sql.specs.Program.{QueryOverflows}
-use Rattle.sqlite_typing.specs.Types.{accepts_program}
 
 -- the text is all that was understood, with as many parameters
 abbrev pub is_all_of : List ℕ → ℕ → Result Compiled CompileError → Bool

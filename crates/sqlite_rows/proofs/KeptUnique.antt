@@ -1,23 +1,8 @@
 -- No two rows share a key after an edit, if none of its rows shares one with another.
-use Rattle.std.proofs.Common.{◌≡◌, ◌≢◌, inl, inr, Bool, true, false, not, ◌||◌, cond, Some, [], ◌∷◌, refl, sym, ap, subst, ◌∙◌}
-use Rattle.std.proofs.lemmas.Bool.{and_parts, true≢false, false_from_ne_true, ne_eqb}
-use Rattle.std.proofs.Common.{eq-eqb}
-use Rattle.sqlite.specs.Order.{Row}
-use Rattle.sqlite.specs.Tree.{Trees}
-use Rattle.sqlite.specs.Schema.{Schema}
-use Rattle.sqlite_schema.specs.declared.schema.Index.{Index}
-use Rattle.sqlite_schema.specs.declared.schema.Constraint.TheVariants.{Unique}
-use Rattle.sqlite_schema.specs.Rules.{Keeps, agree, differ, guards}
-use Rattle.sqlite_trees.specs.Tree.{IsAscending, IsTable, rowid, with_tree}
-use Rattle.sqlite_sql.specs.Ops.{binary, is_null, is_true, from_truth}
-use Rattle.sqlite_value.specs.declared.value.Value.{Value}
+use Rattle.sqlite_rows.proofs.Common.{◌≡◌, ◌≢◌, inl, inr, Bool, true, false, not, ◌||◌, cond, Some, [], ◌∷◌, refl, sym, ap, subst, ◌∙◌, and_parts, true≢false, false_from_ne_true, ne_eqb, eq-eqb, Row, Trees, Schema, Index, Unique, Keeps, agree, differ, guards, IsAscending, IsTable, rowid, with_tree, is_null, is_true, from_truth, Value, Edit, are_fresh, left_by, edited, put_all, Has, all_from, test_from, some_has, unique_kept, put_has}
+use Rattle.sqlite_sql.specs.Ops.{binary}
 use Rattle.sqlite_value.specs.declared.value.Value.TheVariants.{Null}
-use Rattle.sqlite_rules.specs.Edit.{Edit, are_fresh, left_by, edited, put_all}
-use Rattle.sqlite_rules.specs.Lists.{Has}
 use Rattle.sqlite_rules.proofs.EditLemmas.{turns}
-use Rattle.sqlite_rules.proofs.ListLemmas.{all_from, test_from, some_has}
-use Rattle.sqlite_rules.proofs.RuleLemmas.{unique_kept}
-use Rattle.sqlite_rules.proofs.TableLemmas.{put_has}
 use Rattle.sqlite_rows.proofs.Keyed.{same_value_cmp}
 
 untrue : (b : Bool) → is_true (cond b Null (from_truth (Some false))) ≡ false

@@ -1,26 +1,6 @@
 -- Rows of a table taken out by their rowids.
-use Rattle.std.proofs.Common.{◌≡◌, inl, inr, ℤ, Bool, true, false, not, ◌||◌, ◌&&◌, cond, List, [], ◌∷◌, map, filter, IsTrue, refl, sym, ap, subst, ◌∙◌, IsPermutation}
-use Rattle.std.specs.List.{list_any}
-use Rattle.std.specs.declared.cmp.Ordering.{Ordering}
-use Rattle.std.specs.declared.cmp.Ordering.TheVariants.{Less, Equal, Greater}
-use Rattle.std.specs.Ordering.{is_eq, ordering_reverse}
-use Rattle.std.proofs.lemmas.Bool.{false_from_ne_true, true≢false}
-use Rattle.std.proofs.lemmas.List.Sorted.{list_any-IsPermutation, IsPermutation-map}
-use Rattle.std.proofs.lemmas.List.Elements.{filter_agree}
-use Rattle.sqlite.specs.Order.{Row}
-use Rattle.sqlite_value.specs.declared.value.Value.{Value}
-use Rattle.sqlite_value.specs.Order.{value_cmp}
-use Rattle.sqlite_value.proofs.OrderLemmas.{value_cmp_total}
-use Rattle.sqlite_trees.specs.Tree.{IsTable, rowid, has_rowid, without_rowid}
-use Rattle.sqlite_trees.specs.View.{is_int, IsShaped}
+use Rattle.sqlite_rows.proofs.Common.{◌≡◌, inl, inr, ℤ, Bool, true, false, not, ◌||◌, ◌&&◌, cond, List, [], ◌∷◌, map, filter, IsTrue, refl, sym, ap, subst, ◌∙◌, IsPermutation, list_any, Ordering, Less, Equal, Greater, is_eq, ordering_reverse, false_from_ne_true, true≢false, list_any-IsPermutation, IsPermutation-map, filter_agree, Row, Value, value_cmp, value_cmp_total, IsTable, rowid, has_rowid, without_rowid, is_int, IsShaped, filter_all, filter_same, filter_none, all_of, id_in, without_all, ids_of, Has, all_has, all_from, some_has, some_from, has_filtered, has_kept, int_is, tied_same}
 use Rattle.sqlite_trees.specs.declared.store.Shape.TheVariants as shape
-use Rattle.sqlite_trees.proofs.ListLemmas.{filter_all, filter_same, filter_none, all_of}
-use Rattle.sqlite_rules.specs.Edit.{id_in, without_all}
-use Rattle.sqlite_rules.specs.Calls.{ids_of}
-use Rattle.sqlite_rules.specs.Lists.{Has}
-use Rattle.sqlite_rules.proofs.ListLemmas.{all_has, all_from, some_has, some_from, has_filtered, has_kept}
-use Rattle.sqlite_rules.proofs.TableLemmas.{int_is}
-use Rattle.sqlite_rules.proofs.PlaceLemmas.{tied_same}
 use Rattle.sqlite_rows.proofs.ValueLemmas.{tied}
 
 pub has_mapped : {A B : Type 0} (f : A → B) (xs : List A) (x : A) → Has xs x → Has (map f xs) (f x)

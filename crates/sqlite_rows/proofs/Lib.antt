@@ -1,4 +1,5 @@
 pub mod Bags
+pub mod Common
 pub mod Creating
 pub mod Dropping
 pub mod Failing

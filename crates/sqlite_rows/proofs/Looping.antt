@@ -1,12 +1,6 @@
 -- Calls inside a transaction, one after another.
-use Rattle.std.proofs.Common.{◌≡◌, ℕ, suc, ◌+◌, ◌<◌, List, [], ◌∷◌, ◌++◌, take, length, get_or, sym, ap, subst, ◌∙◌, arith}
+use Rattle.sqlite_rows.proofs.Common.{◌≡◌, ℕ, suc, ◌+◌, ◌<◌, List, [], ◌∷◌, ◌++◌, take, length, get_or, sym, ap, subst, ◌∙◌, arith, Schema, Trees, Database, State, HasCleanDisk, KeepsCommit, Survives, survives_then, IsInside}
 use Rattle.std.proofs.Math.Seq.{take-suc}
-use Rattle.sqlite.specs.Schema.{Schema}
-use Rattle.sqlite.specs.Tree.{Trees}
-use Rattle.sqlite.specs.Effect.{Database}
-use Rattle.sqlite.specs.State.{State, HasCleanDisk, KeepsCommit, Survives}
-use Rattle.sqlite.proofs.StateLemmas.{survives_then}
-use Rattle.sqlite_rows.specs.Calls.{IsInside}
 use Rattle.sqlite_rows.proofs.Statements.{kept_itself, kept_then, survives_itself}
 
 module _ {X R : Type 0} (step : X → R → R) (steps : List X → R → R)

@@ -1,13 +1,6 @@
 -- The rowid of the next row.
-use Rattle.std.proofs.Common.{◌≡◌, ℕ, ℤ, pos, ◌+◌, ◌+ℤ◌, ◌^◌, ◌<◌, ◌≤◌, Bool, true, List, [], ◌∷◌, filter, fold, refl, ap, ◌∙◌, arith, nat_lt}
+use Rattle.sqlite_rows.proofs.Common.{◌≡◌, ℕ, ℤ, pos, ◌+◌, ◌+ℤ◌, ◌^◌, ◌<◌, ◌≤◌, Bool, true, List, [], ◌∷◌, filter, fold, refl, ap, ◌∙◌, arith, nat_lt, Row, fits_i64, rowid, id_in, next_rowid, Has, all_has, all_from, has_filtered, AreUpTo, TakesMore}
 use Rattle.std.proofs.lemmas.Bool.Decides.{nat_tests}
-use Rattle.sqlite.specs.Order.{Row}
-use Rattle.sqlite_sql.specs.Ops.{fits_i64}
-use Rattle.sqlite_trees.specs.Tree.{rowid}
-use Rattle.sqlite_rules.specs.Edit.{id_in, next_rowid}
-use Rattle.sqlite_rules.specs.Lists.{Has}
-use Rattle.sqlite_rules.proofs.ListLemmas.{all_has, all_from, has_filtered}
-use Rattle.sqlite_rows.specs.Numbers.{AreUpTo, TakesMore}
 
 next_from : (last at : ℕ) (rows : List Row) → at ≤ last + 1 → AreUpTo last rows
     → (k : ℕ) × (fold (λ (_ : ℤ) r. id_in (rowid r) +ℤ pos 1) (pos at) rows ≡ pos k)

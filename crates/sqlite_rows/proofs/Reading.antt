@@ -1,15 +1,5 @@
 -- Calls that only read: what one leaves, and one after another.
-use Rattle.std.proofs.Common.{inl, inr, ◌∙◌, List, ℕ, sym, ap, subst, arith}
-use Rattle.sqlite.specs.Order.{Row}
-use Rattle.sqlite.specs.Schema.{Schema}
-use Rattle.sqlite.specs.Tree.{Trees}
-use Rattle.sqlite.specs.Effect.{Database}
-use Rattle.sqlite.specs.declared.error.Error.{Error}
-use Rattle.sqlite.specs.Listing.{understood}
-use Rattle.sqlite.specs.State.{State, HasCleanDisk, Shown, FailsToQuery, IsUnchanged, IsRolledBack, Survives, CommitsShowing}
-use Rattle.sqlite.proofs.Callers.{IsPlain, never_commits, unchanged_then}
-use Rattle.sqlite.proofs.StateLemmas.{survives_then, survives_weaker}
-use Rattle.sqlite_rows.specs.Reads.{HasReadOver, HasFailedOver, LeavesAlone}
+use Rattle.sqlite_rows.proofs.Common.{inl, inr, ◌∙◌, List, ℕ, sym, ap, subst, arith, Row, Schema, Trees, Database, Error, understood, State, HasCleanDisk, Shown, FailsToQuery, IsUnchanged, IsRolledBack, Survives, CommitsShowing, IsPlain, never_commits, unchanged_then, survives_then, survives_weaker, HasReadOver, HasFailedOver, LeavesAlone}
 use Rattle.sqlite_rows.proofs.Refusing.{left_alone, asking_refusal}
 
 -- ---- a text that is a plain query over each schema that is known

@@ -1,17 +1,8 @@
 -- A call that is refused leaves the records, and so does one that only reads.
-use Rattle.std.proofs.Common.{◌≡◌, ◌⊎◌, inl, inr, ℕ, List, Option, Some, None, IfErr, Result, Ok, Err, IfOk, OnOk, OnErr, sym, ap, subst, ◌∙◌}
-use Rattle.sqlite.specs.Order.{Row}
-use Rattle.sqlite.specs.Effect.{Database}
-use Rattle.sqlite.specs.declared.error.Error.{Error}
-use Rattle.sqlite.specs.Listing.{understood}
+use Rattle.sqlite_rows.proofs.Common.{◌≡◌, ◌⊎◌, inl, inr, ℕ, List, Option, Some, None, IfErr, Result, Ok, Err, IfOk, OnOk, OnErr, sym, ap, subst, ◌∙◌, Row, Database, Error, understood, State, FailsToShow, IsUnchanged, IsRolledBack, Compiled, Returning, Schema, Trees, Holds, HasRecords}
 use Rattle.sqlite.specs.Clock.{timed}
-use Rattle.sqlite.specs.State.{State, IsNotRun, FailsToQuery, FailsToShow, IsUnchanged, IsRolledBack, Shown}
+use Rattle.sqlite.specs.State.{IsNotRun, FailsToQuery, Shown}
 use Rattle.sqlite.specs.Given.{IsPlain}
-use Rattle.sqlite_resolve.specs.declared.compiled.Compiled.{Compiled}
-use Rattle.sqlite_schema.specs.declared.command.Returning.{Returning}
-use Rattle.sqlite.specs.Schema.{Schema}
-use Rattle.sqlite.specs.Tree.{Trees}
-use Rattle.sqlite_rows.specs.Calls.{Holds, HasRecords}
 use Rattle.sqlite_rows.proofs.Statements.{settled_schema}
 
 shown_refusal : (sql : List ℕ) (params : Row) (old new : State) (c : Compiled) (e : Error)

@@ -1,65 +1,17 @@
 -- What `INSERT .. ON CONFLICT (key) DO UPDATE` of one row makes of a database, over any schema.
-use Rattle.std.proofs.Common.{IsSome, Err, nat_lt, ◌||◌, ◌≡◌, ◌≢◌, ◌⊎◌, inl, inr, ℕ, ℤ, ◌/◌, Bool, true, false, not, ◌&&◌, cond, List, [], ◌∷◌, ◌++◌, map, filter, drop, length, Option, Some, None, Ok, refl, sym, ap, ap₂, subst, ◌∙◌, IsPermutation, IsTrue}
-use Rattle.std.specs.List.{AllByRecursion, list_any}
-use Rattle.std.specs.Ordering.{is_eq}
-use Rattle.std.proofs.lemmas.Bool.{false_from_ne_true, true≢false, and_from, and_parts, not-true}
-use Rattle.std.proofs.lemmas.List.Elements.{filter_agree}
-use Rattle.std.proofs.lemmas.List.Sorted.{IsPermutation-refl}
-use Rattle.sqlite.specs.Order.{Row, column}
-use Rattle.sqlite.specs.Collation.TheVariants.{Binary}
-use Rattle.sqlite_value.specs.Keys.{plain, first_key}
-use Rattle.sqlite_value.specs.Order.{value_cmp}
+use Rattle.sqlite_rows.proofs.Common.{IsSome, Err, nat_lt, ◌||◌, ◌≡◌, ◌≢◌, ◌⊎◌, inl, inr, ℕ, ℤ, ◌/◌, Bool, true, false, not, ◌&&◌, cond, List, [], ◌∷◌, ◌++◌, map, filter, drop, length, Option, Some, None, Ok, refl, sym, ap, ap₂, subst, ◌∙◌, IsPermutation, IsTrue, AllByRecursion, list_any, is_eq, false_from_ne_true, true≢false, and_from, and_parts, not-true, filter_agree, IsPermutation-refl, Row, column, Binary, plain, value_cmp, Null, Int, Text, Term, col, op2, eval_all, holds, Table, Schema, Index, Datatype, NotNull, Check, PrimaryKey, Unique, ForeignKey, agree, clashes, differ, equal, guards, references_fit, Fits, Keeps, Refers, Values, InsertOr, IsAnswer, Trees, rowid, put_row, is_int, IsShaped, filter_all, filter_same, all_of, edit_of, Edit, IsOversized, is_off, Applies, id_in, is_taken, taken_by, are_fresh, with_rowid, next_rowid, without_all, works, ids_of, Has, Refusal, all_has, all_from, test_has, some_has, some_from, has_kept, has_filtered, keeps_at, has_put, put_all_keeps, int_is, without_all_has, IsShaped-filter, Given, Chosen, Above, cast_all, cast_row, Tally, OnRows, due, Error, Program, All, ProgramOverflows, fits_i64, accepts_program, accepts_terms, IsAscending, Violates, Mismatch, NoRowid, BadReference, TooDeep, next_is_free, Written, Task, stamped, shown, Judged, Upserts, Meets, Clears, Puts, Updates, nothing, Tries, TriesEach, InsertsOr, rowids_for, count_of, Database, value_rows, Mode, one_step, one_permutation}
+use Rattle.sqlite_value.specs.Keys.{first_key}
 use Rattle.sqlite.specs.declared.types.Value.{Value}
-use Rattle.sqlite.specs.declared.types.Value.TheVariants.{Null, Int, Text}
-use Rattle.sqlite.specs.Term.{Term, col, op2, eval_all, holds}
 use Rattle.sqlite_sql.specs.declared.ops.BinaryOp.TheVariants.{Compare}
 use Rattle.sqlite_sql.specs.declared.ops.CompareOp.TheVariants.{Eq}
-use Rattle.sqlite.specs.Table.{Table}
-use Rattle.sqlite.specs.Schema.{Schema}
-use Rattle.sqlite_schema.specs.declared.schema.Index.{Index}
-use Rattle.sqlite_schema.specs.declared.schema.Constraint.TheVariants.{Datatype, NotNull, Check, PrimaryKey, Unique, ForeignKey}
-use Rattle.sqlite_schema.specs.Rules.{agree, clashes, differ, equal, guards, references_fit, Fits, Keeps, Refers}
 use Rattle.sqlite_schema.specs.declared.command.Conflict.TheVariants.{Abort}
 use Rattle.sqlite_schema.specs.declared.command.Upsert.{Upsert}
-use Rattle.sqlite.specs.Source.TheVariants.{Values}
-use Rattle.sqlite.specs.Command.TheVariants.{InsertOr}
-use Rattle.sqlite.specs.Query.{IsAnswer}
-use Rattle.sqlite.specs.Tree.{Trees}
-use Rattle.sqlite_trees.specs.Tree.{rowid, put_row}
-use Rattle.sqlite_trees.specs.View.{is_int, IsShaped}
 use Rattle.sqlite_trees.specs.declared.store.Shape.TheVariants as shape
-use Rattle.sqlite_trees.proofs.ListLemmas.{filter_all, filter_same, all_of}
-use Rattle.sqlite.specs.Edit.{edit_of}
-use Rattle.sqlite_rules.specs.Edit.{Edit, IsOversized, is_off, Applies, id_in, is_taken, taken_by, are_fresh, with_rowid, next_rowid, without_all}
-use Rattle.sqlite_rules.specs.Action.{works}
-use Rattle.sqlite_rules.specs.Calls.{ids_of}
 use Rattle.sqlite_rules.specs.Keys.{AreConflicts, conflicts}
-use Rattle.sqlite_rules.specs.Lists.{Has}
-use Rattle.sqlite_rules.specs.declared.error.Refusal.{Refusal}
-use Rattle.sqlite_rules.proofs.ListLemmas.{all_has, all_from, test_has, some_has, some_from, has_kept, has_filtered}
-use Rattle.sqlite_rules.proofs.RuleLemmas.{keeps_at}
-use Rattle.sqlite_rules.proofs.TableLemmas.{has_put, put_all_keeps, int_is, without_all_has}
-use Rattle.sqlite_trees.proofs.TreeLemmas.{IsShaped-filter}
-use Rattle.sqlite.specs.Rowids.TheVariants.{Given, Chosen, Above}
-use Rattle.sqlite.specs.Cast.{cast_all, cast_row}
-use Rattle.sqlite.specs.Does.{Tally, OnRows, due}
-use Rattle.sqlite.specs.declared.error.Error.{Error}
-use Rattle.sqlite_schema.specs.declared.program.Program.{Program}
-use Rattle.sqlite_schema.specs.declared.schema.Among.TheVariants.{All}
-use Rattle.sqlite_sql.specs.Program.{ProgramOverflows}
-use Rattle.sqlite_sql.specs.Ops.{fits_i64}
-use Rattle.sqlite_typing.specs.Types.{accepts_program, accepts_terms}
-use Rattle.sqlite_trees.specs.Tree.{IsAscending}
 use Rattle.sqlite_rules.specs.Steps.{PassAlone, IsJudged}
 use Rattle.sqlite_rules.specs.Action.{Writes}
-use Rattle.sqlite_rules.specs.declared.error.Refusal.TheVariants.{Violates, Mismatch, NoRowid, BadReference, TooDeep}
-use Rattle.sqlite_rules.proofs.PlaceLemmas.{next_is_free}
 use Rattle.sqlite_rows.proofs.KeptUnique.{unique_added}
 use Rattle.sqlite_rows.proofs.Stopping.{IsAllowed, never_stops, concluded}
-use Rattle.sqlite.specs.Rows.{Written, Task, stamped, shown, Judged, Upserts, Meets, Clears, Puts, Updates, nothing, Tries, TriesEach, InsertsOr, rowids_for, count_of}
-use Rattle.sqlite.specs.Effect.{Database, value_rows}
-use Rattle.sqlite.specs.declared.run.Mode.{Mode}
-use Rattle.sqlite.proofs.Callers.{one_step, one_permutation}
 use Rattle.sqlite_rows.proofs.Inserting.{went, same_value, if_not, counts_none}
 use Rattle.sqlite_rows.proofs.Finding.{scan, overlaid, found}
 use Rattle.sqlite_rows.proofs.Keyed.{left_are, just_one, one_row, same_value_cmp}

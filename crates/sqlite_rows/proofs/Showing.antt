@@ -1,12 +1,7 @@
 -- What a connection that was just opened shows.
-use Rattle.std.proofs.Common.{◌≡◌, IsTrue, false}
-use Rattle.sqlite.specs.Schema.{Schema}
-use Rattle.sqlite.specs.Tree.{Trees}
-use Rattle.sqlite.specs.State.{State, IsLive}
-use Rattle.sqlite_catalog.specs.Listing.{IsSound}
+use Rattle.sqlite_rows.proofs.Common.{◌≡◌, IsTrue, false, Schema, Trees, State, IsLive, IsSound, Holds, HasRecords}
 use Rattle.sqlite_catalog.proofs.ReadLemmas.{lists_once}
 use Rattle.sqlite_trees.specs.Objects.{catalog_tree}
-use Rattle.sqlite_rows.specs.Calls.{Holds, HasRecords}
 
 -- trees list one schema
 pub one_schema : (s : State) (schema : Schema) → IsTrue s.is_open → IsLive s

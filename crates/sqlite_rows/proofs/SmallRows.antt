@@ -1,24 +1,11 @@
 -- Rows without floats that are short enough to be stored.
-use Rattle.std.proofs.Common.{◌≡◌, inl, inr, ℕ, ℤ, pos, negsuc, ◌+◌, ◌*◌, ◌^◌, ◌<◌, ◌≤◌, Bool, true, false, List, [], ◌∷◌, length, sum_by, refl, sym, ap, ap₂, ◌∙◌, arith}
-use Rattle.std.specs.List.{AllByRecursion, list_all}
+use Rattle.sqlite_rows.proofs.Common.{◌≡◌, inl, inr, ℕ, ℤ, pos, negsuc, ◌+◌, ◌*◌, ◌^◌, ◌<◌, ◌≤◌, Bool, true, false, List, [], ◌∷◌, length, sum_by, refl, sym, ap, ap₂, ◌∙◌, arith, AllByRecursion, list_all, and_parts, true≢false, All-from_recursion, Row, Table, Schema, Value, Real, Blob, exact, number, bytes, table_reals, index_reals, Index, IsStorable, IsOversized, Has}
 use Rattle.std.specs.Int.{bit_at}
 use Rattle.std.specs.Float.{NotNan, float_zero}
 use Rattle.std.specs.Float.Ieee
-use Rattle.std.proofs.lemmas.Bool.{and_parts, true≢false}
-use Rattle.std.proofs.lemmas.List.Elements.{All-from_recursion}
 use Rattle.std.proofs.lemmas.Nat.Bits.{bit_at-zero}
-use Rattle.sqlite.specs.Order.{Row}
-use Rattle.sqlite.specs.Table.{Table}
-use Rattle.sqlite.specs.Schema.{Schema}
-use Rattle.sqlite_value.specs.declared.value.Value.{Value}
-use Rattle.sqlite_value.specs.declared.value.Value.TheVariants.{Null, Int, Real, Text, Blob}
-use Rattle.sqlite_value.specs.Order.{exact, number, bytes}
-use Rattle.sqlite_schema.specs.Rules.{table_reals, index_reals}
-use Rattle.sqlite_schema.specs.declared.schema.Index.{Index}
+use Rattle.sqlite_value.specs.declared.value.Value.TheVariants.{Null, Int, Text}
 use Rattle.sqlite_sql.specs.Catalog.{entry_of}
-use Rattle.sqlite_trees.specs.View.{IsStorable}
-use Rattle.sqlite_rules.specs.Edit.{IsOversized}
-use Rattle.sqlite_rules.specs.Lists.{Has}
 
 abbrev pub is_no_float : Value → Bool
 is_no_float Null = true

@@ -1,45 +1,10 @@
 -- Why a statement fails, if its text is known and no rule refuses it, and why one on the rows of
 -- a table stops.
-use Rattle.std.proofs.Common.{◌≡◌, ◌⊎◌, inl, inr, ℕ, zero, suc, Bool, true, false, ◌||◌, cond, List, [], ◌∷◌, ◌/◌, length, Option, Some, None, Ok, Err, IsSome, IsTrue, refl, sym, ap, subst, subst₂, ◌∙◌, append-nil, arith}
-use Rattle.std.specs.Prelude.{is_some}
-use Rattle.std.specs.List.{list_all}
-use Rattle.std.proofs.lemmas.Bool.{cases_Bool, true≢false}
-use Rattle.std.proofs.lemmas.List.{length-append}
-use Rattle.sqlite.specs.Order.{Row}
-use Rattle.sqlite.specs.Tree.{Trees}
-use Rattle.sqlite.specs.Schema.{Schema}
-use Rattle.sqlite.specs.Table.{Table}
-use Rattle.sqlite.specs.Term.{Term}
-use Rattle.sqlite.specs.Source.TheVariants.{Values}
-use Rattle.sqlite.specs.Command.{Command}
-use Rattle.sqlite.specs.Command.TheVariants.{Insert, InsertOr, Update, Delete, CreateTable}
+use Rattle.sqlite_rows.proofs.Common.{◌≡◌, ◌⊎◌, inl, inr, ℕ, zero, suc, Bool, true, false, ◌||◌, cond, List, [], ◌∷◌, ◌/◌, length, Option, Some, None, Ok, Err, IsSome, IsTrue, refl, sym, ap, subst, subst₂, ◌∙◌, arith, is_some, list_all, cases_Bool, true≢false, length-append, Row, Trees, Schema, Table, Term, Values, Command, Insert, InsertOr, Update, Delete, CreateTable, Does, OnRows, Concludes, due, Written, Task, Inserts, stamped, rowids_for, count_of, is_query, value_rows, edit_of, cast_row, Chosen, Above, understood, State, mode_of, text_of, shows_rows, is_pragma, Executes, ExecutesInside, IsMisplaced, IsUnchanged, Fails, Error, Mode, IsPlain, command_of, statement_of, one_step, Returning, Datatype, NotNull, Check, PrimaryKey, Unique, ForeignKey, Keys, Enforced, All, Keeps, Refers, passes, rowid, with_tree, fits_i64, accepts_terms, Edit, Applies, IsRefused, IsOversized, id_in, have_rowids, are_fresh, left_by, edited, taken_by, is_referred, with_rowid, Leads, works, Has, Refusal, Violates, Mismatch, NoRowid, BadReference, TooDeep, no_works}
+use Rattle.std.proofs.Common.{append-nil}
 use Rattle.sqlite.specs.Calls.{IsWrite}
-use Rattle.sqlite.specs.Does.{Does, OnRows, Concludes, due}
-use Rattle.sqlite.specs.Rows.{Written, Task, Inserts, stamped, rowids_for, count_of}
-use Rattle.sqlite.specs.Effect.{is_query, value_rows}
-use Rattle.sqlite.specs.Edit.{edit_of}
-use Rattle.sqlite.specs.Cast.{cast_row}
-use Rattle.sqlite.specs.Rowids.TheVariants.{Chosen, Above}
-use Rattle.sqlite.specs.Listing.{understood}
-use Rattle.sqlite.specs.State.{State, mode_of, text_of, shows_rows, is_pragma, Executes, ExecutesIn, ExecutesInside, EndsScope, IsNotRun, IsMisplaced, IsUnchanged, Fails}
-use Rattle.sqlite.specs.declared.error.Error.{Error}
-use Rattle.sqlite.specs.declared.run.Mode.{Mode}
-use Rattle.sqlite.proofs.Callers.{IsPlain, command_of, statement_of, one_step}
-use Rattle.sqlite_schema.specs.declared.command.Returning.{Returning}
-use Rattle.sqlite_schema.specs.declared.schema.Constraint.TheVariants.{Datatype, NotNull, Check, PrimaryKey, Unique, ForeignKey}
-use Rattle.sqlite_schema.specs.declared.schema.Keys.{Keys}
-use Rattle.sqlite_schema.specs.declared.schema.Keys.TheVariants.{Enforced}
-use Rattle.sqlite_schema.specs.declared.schema.Among.TheVariants.{All}
-use Rattle.sqlite_schema.specs.Rules.{Keeps, Refers, passes}
-use Rattle.sqlite_trees.specs.Tree.{rowid, with_tree}
-use Rattle.sqlite_sql.specs.Ops.{fits_i64}
-use Rattle.sqlite_typing.specs.Types.{accepts_terms}
-use Rattle.sqlite_rules.specs.Edit.{Edit, Applies, IsRefused, IsOversized, id_in, have_rowids, are_fresh, left_by, edited, taken_by, is_referred, with_rowid}
-use Rattle.sqlite_rules.specs.Action.{Writes, Leads, works}
-use Rattle.sqlite_rules.specs.Lists.{Has}
-use Rattle.sqlite_rules.specs.declared.error.Refusal.{Refusal}
-use Rattle.sqlite_rules.specs.declared.error.Refusal.TheVariants.{Violates, Mismatch, NoRowid, BadReference, TooDeep}
-use Rattle.sqlite_rules.proofs.ActionLemmas.{no_works}
+use Rattle.sqlite.specs.State.{ExecutesIn, EndsScope, IsNotRun}
+use Rattle.sqlite_rules.specs.Action.{Writes}
 use Rattle.sqlite_rows.proofs.Failing.{IsReadFault, is_all_of, never_misread, store_failed}
 use Rattle.sqlite_rows.proofs.Inserting.{went, same_value, if_not, counts_none}
 

@@ -1,25 +1,9 @@
 -- Why a CREATE TABLE stops: nothing of the schema refuses a table of a small text and a free name.
-use Rattle.std.proofs.Common.{◌≡◌, inl, inr, ℕ, ◌+◌, ◌*◌, ◌^◌, ◌<◌, true, false, not, List, length, codes, Option, Some, None, Ok, Err, IsUtf8, sym, ap, subst, ◌∙◌, arith}
-use Rattle.std.specs.List.{list_all}
-use Rattle.std.proofs.lemmas.Bool.{true≢false, not-true}
-use Rattle.sqlite.specs.Order.{Row}
-use Rattle.sqlite.specs.Table.{Table}
-use Rattle.sqlite.specs.Schema.{Schema}
-use Rattle.sqlite.specs.Command.TheVariants.{CreateTable}
-use Rattle.sqlite.specs.Compile.{table_defined_by}
-use Rattle.sqlite.specs.Change.{created, next_tree}
-use Rattle.sqlite.specs.Does.{Does, MakesTable, lacks_sequence}
-use Rattle.sqlite.specs.Effect.{Database}
-use Rattle.sqlite.specs.declared.error.Error.{Error}
-use Rattle.sqlite.specs.declared.run.Mode.{Mode}
-use Rattle.sqlite.specs.declared.types.Value.TheVariants.{Text}
+use Rattle.sqlite_rows.proofs.Common.{◌≡◌, inl, inr, ℕ, ◌+◌, ◌*◌, ◌^◌, ◌<◌, true, false, not, List, length, codes, Option, Some, None, Ok, Err, IsUtf8, sym, ap, subst, ◌∙◌, arith, list_all, true≢false, not-true, Row, Table, Schema, CreateTable, table_defined_by, created, next_tree, Does, MakesTable, lacks_sequence, Database, Error, Mode, Text, is_fit, is_formed, test_has, table_reals}
 use Rattle.sqlite_catalog.specs.Calls.{RefusesTable, IsLongTable}
 use Rattle.sqlite_catalog.specs.Change.{is_used, is_reserved, automatics}
-use Rattle.sqlite_catalog.specs.Listing.{is_fit, is_formed}
 use Rattle.sqlite_catalog.specs.declared.error.Refusal.{Refusal}
 use Rattle.sqlite_catalog.specs.declared.error.Refusal.TheVariants.{Invalid, NameTaken, BadName, TooBig, BadKey, BadText, Violates}
-use Rattle.sqlite_rules.proofs.ListLemmas.{test_has}
-use Rattle.sqlite_schema.specs.Rules.{table_reals}
 use Rattle.sqlite_rows.proofs.Inserting.{if_not}
 use Rattle.sqlite_rows.proofs.SmallRows.{no_index_reals}
 

@@ -1,32 +1,6 @@
 -- Why a DELETE stops, of the rows that pass a test or of all.
-use Rattle.std.proofs.Common.{◌≡◌, inl, inr, ℕ, Bool, true, List, [], ◌∷◌, map, filter, Option, Some, None, Err, IsSome, IsPermutation, sym, ◌∙◌, refl}
-use Rattle.std.proofs.lemmas.Bool.{true≢false}
-use Rattle.sqlite.specs.Order.{Row, column}
-use Rattle.sqlite.specs.Query.{IsAnswer}
-use Rattle.sqlite.specs.Term.{Term, col, holds}
-use Rattle.sqlite.specs.Table.{Table}
-use Rattle.sqlite.specs.Schema.{Schema}
-use Rattle.sqlite.specs.Tree.{Trees}
-use Rattle.sqlite.specs.Edit.{edit_of}
-use Rattle.sqlite.specs.Rowids.TheVariants.{Given}
-use Rattle.sqlite.specs.Command.TheVariants.{Delete}
-use Rattle.sqlite.specs.Does.{OnRows}
-use Rattle.sqlite.specs.Rows.{Task, Deletes}
-use Rattle.sqlite.specs.declared.error.Error.{Error}
-use Rattle.sqlite_schema.specs.declared.program.Program.{Program}
-use Rattle.sqlite_schema.specs.declared.schema.Keys.TheVariants.{Enforced}
-use Rattle.sqlite_schema.specs.declared.schema.Among.TheVariants.{All}
-use Rattle.sqlite_schema.specs.declared.schema.Constraint.TheVariants.{Unique}
-use Rattle.sqlite_schema.specs.Rules.{Refers, Keeps}
-use Rattle.sqlite_sql.specs.Program.{ProgramOverflows}
-use Rattle.sqlite_trees.specs.Tree.{IsAscending}
-use Rattle.sqlite_trees.specs.View.{IsShaped}
+use Rattle.sqlite_rows.proofs.Common.{◌≡◌, inl, inr, ℕ, Bool, true, List, [], ◌∷◌, map, filter, Option, Some, None, Err, IsSome, IsPermutation, sym, ◌∙◌, refl, true≢false, Row, column, IsAnswer, Term, col, holds, Table, Schema, Trees, edit_of, Given, Delete, OnRows, Task, Deletes, Error, Program, Enforced, All, Unique, Refers, Keeps, ProgramOverflows, IsAscending, IsShaped, accepts_program, works, ids_of, is_referred, Has}
 use Rattle.sqlite_trees.specs.declared.store.Shape.TheVariants as shape
-use Rattle.sqlite_typing.specs.Types.{accepts_program}
-use Rattle.sqlite_rules.specs.Action.{works}
-use Rattle.sqlite_rules.specs.Calls.{ids_of}
-use Rattle.sqlite_rules.specs.Edit.{is_referred}
-use Rattle.sqlite_rules.specs.Lists.{Has}
 use Rattle.sqlite_rows.proofs.Dropping.{Loses, all_found, takes_out}
 use Rattle.sqlite_rows.proofs.Finding.{scan, found}
 use Rattle.sqlite_rows.proofs.KeptUnique.{unique_less}

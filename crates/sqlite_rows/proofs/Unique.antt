@@ -1,26 +1,7 @@
 -- A table whose key is a text in its first column, guarded by an index, has one row of a key.
-use Rattle.std.proofs.Common.{◌≡◌, ◌≤◌, inl, inr, true, false, not, ◌&&◌, ℕ, List, [], ◌∷◌, filter, length, refl, sym, ap, subst, ◌∙◌, arith}
-use Rattle.std.specs.List.{list_any}
-use Rattle.std.specs.Ordering.{is_eq}
-use Rattle.std.proofs.lemmas.Bool.{true≢false, and_from}
-use Rattle.sqlite.specs.Order.{Row, column}
-use Rattle.sqlite.specs.Collation.TheVariants.{Binary}
-use Rattle.sqlite_value.specs.Keys.{plain, first_key}
-use Rattle.sqlite_value.specs.Order.{value_cmp}
-use Rattle.sqlite.specs.declared.types.Value.TheVariants.{Text}
-use Rattle.sqlite.specs.Table.{Table}
-use Rattle.sqlite.specs.Schema.{Schema}
-use Rattle.sqlite_schema.specs.declared.schema.Index.{Index}
-use Rattle.sqlite_schema.specs.declared.schema.Constraint.TheVariants.{Unique}
-use Rattle.sqlite_schema.specs.Rules.{agree, clashes, differ, equal, guards, Obeys}
-use Rattle.sqlite.specs.Tree.{Trees}
-use Rattle.sqlite_trees.specs.Tree.{rowid}
-use Rattle.sqlite_trees.specs.View.{IsShaped}
+use Rattle.sqlite_rows.proofs.Common.{◌≡◌, ◌≤◌, inl, inr, true, false, not, ◌&&◌, ℕ, List, [], ◌∷◌, filter, length, refl, sym, ap, subst, ◌∙◌, arith, list_any, is_eq, true≢false, and_from, Row, column, Binary, plain, value_cmp, Text, Table, Schema, Index, Unique, agree, clashes, differ, equal, guards, Obeys, Trees, rowid, IsShaped, IsShaped-filter, Has, test_has, some_from, has_filtered, keeps_at}
+use Rattle.sqlite_value.specs.Keys.{first_key}
 use Rattle.sqlite_trees.specs.declared.store.Shape.TheVariants as shape
-use Rattle.sqlite_trees.proofs.TreeLemmas.{IsShaped-filter}
-use Rattle.sqlite_rules.specs.Lists.{Has}
-use Rattle.sqlite_rules.proofs.ListLemmas.{test_has, some_from, has_filtered}
-use Rattle.sqlite_rules.proofs.RuleLemmas.{keeps_at}
 use Rattle.sqlite_rows.proofs.Bags.{has_key}
 use Rattle.sqlite_rows.proofs.Replacing.{not_both}
 use Rattle.sqlite_rows.proofs.ValueLemmas.{ints_differ}

@@ -1,9 +1,4 @@
-use Rattle.std.proofs.Common.{◌≡◌, ◌∙◌, ◌+◌, ℕ, List, length, sym, rules}
-use Rattle.gm_metadata.specs.Images.{Same}
-use Rattle.gm_shelf.specs.Disk.{View, IsQuiet, IsRun, IsRunWrite, put_run}
-use Rattle.gm_state.specs.Intents.{copies}
-use Rattle.gm_state.specs.declared.intents.Intent.TheVariants.{Copy}
-use Rattle.gm_apply.specs.Redo.{IsUnderWay, with_places}
+use Rattle.gm_apply.proofs.Common.{◌≡◌, ◌∙◌, ◌+◌, ℕ, List, length, sym, rules, Same, View, IsQuiet, IsRun, IsRunWrite, put_run, copies, Copy, IsUnderWay, with_places}
 use Rattle.gm_apply.proofs.UnderWay.{going_start, going_quiet}
 use Rattle.gm_apply.proofs.Sectors.{run_going, run_copied}
 use Rattle.gm_apply.proofs.copy.copy_run.Goals as goal

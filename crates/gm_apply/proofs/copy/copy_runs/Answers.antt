@@ -1,5 +1,4 @@
-use Rattle.std.proofs.Common.{◌≤◌, ◌+◌, inl, arith, rules}
-use Rattle.gm_shelf.proofs.Keeping.{keeps_then}
+use Rattle.gm_apply.proofs.Common.{◌≤◌, ◌+◌, inl, arith, rules, keeps_then}
 use Rattle.gm_apply.proofs.Sectors.{run_gone, run_seen}
 use Rattle.gm_apply.proofs.copy.copy_runs.Goals as goal
 

@@ -1,9 +1,4 @@
-use Rattle.std.proofs.Common.{◌≡◌, ◌≤◌, ◌⊎◌, ◌-◌}
-use Rattle.gm_metadata.specs.Images.{Same}
-use Rattle.gm_shelf.specs.Keeping.{Keeps}
-use Rattle.gm_state.specs.Intents.{copies}
-use Rattle.gm_state.specs.declared.intents.Intent.TheVariants.{Copy}
-use Rattle.gm_apply.specs.Redo.{with_places, IsUnderWay}
+use Rattle.gm_apply.proofs.Common.{◌≡◌, ◌≤◌, ◌⊎◌, ◌-◌, Same, Keeps, copies, Copy, with_places, IsUnderWay}
 use Rattle.gm_apply.proofs.copy.copy_runs.Given as goal
 
 abbrev pub invariant-loop-place : goal.invariant-loop-place

@@ -1,8 +1,4 @@
-use Rattle.std.proofs.Common.{◌≡◌, ◌∙◌, ◌+◌, ◌-◌, ℕ, length, sym, arith, rules, subst}
-use Rattle.gm_metadata.specs.Images.{Same}
-use Rattle.gm_shelf.specs.Disk.{sector_of}
-use Rattle.gm_shelf.proofs.Keeping.{keeps_then}
-use Rattle.gm_shelf.proofs.Runs.{put_upto}
+use Rattle.gm_apply.proofs.Common.{◌≡◌, ◌∙◌, ◌+◌, ◌-◌, ℕ, length, sym, arith, rules, subst, Same, sector_of, keeps_then, put_upto}
 use Rattle.gm_apply.proofs.Stretches.{none_held, stretch_law, stretch_seen, rest_seen, put_same}
 use Rattle.gm_apply.proofs.copy.write_changes.Goals as goal
 use Rattle.gm_apply.proofs.copy.write_changes.Goals.{then-same+in_ok-write_stretch, else-same}

@@ -1,8 +1,4 @@
-use Rattle.std.proofs.Common.{◌≤◌}
-use Rattle.gm_metadata.specs.Images.{Same}
-use Rattle.gm_shelf.specs.Disk.{IsRun, IsRunWrite}
-use Rattle.gm_shelf.specs.Keeping.{Keeps}
-use Rattle.gm_shelf.proofs.Runs.{put_upto}
+use Rattle.gm_apply.proofs.Common.{◌≤◌, Same, IsRun, IsRunWrite, Keeps, put_upto}
 use Rattle.gm_apply.proofs.copy.write_changes.Given as goal
 
 abbrev pub invariant-loop-index : goal.invariant-loop-index

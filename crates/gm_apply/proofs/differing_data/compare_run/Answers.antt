@@ -1,6 +1,4 @@
-use Rattle.std.proofs.Common.{◌≡◌, ◌∙◌, ◌+◌, ℕ, length, rules, subst, arith}
-use Rattle.gm_shelf.specs.Disk.{sector_of}
-use Rattle.gm_apply.specs.DifferingData.{IsDifference, IsWithin}
+use Rattle.gm_apply.proofs.Common.{◌≡◌, ◌∙◌, ◌+◌, ℕ, length, rules, subst, arith, sector_of, IsDifference, IsWithin}
 use Rattle.gm_apply.proofs.DifferingSectors.{difference_read}
 use Rattle.gm_apply.proofs.differing_data.compare_run.Goals as goal
 

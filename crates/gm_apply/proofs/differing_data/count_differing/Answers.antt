@@ -1,5 +1,4 @@
-use Rattle.std.proofs.Common.{sym, arith}
-use Rattle.gm_shelf.specs.Disk.{sector_of}
+use Rattle.gm_apply.proofs.Common.{sym, arith, sector_of}
 use Rattle.gm_apply.proofs.DifferingSectors.{count_equal}
 use Rattle.gm_apply.proofs.differing_data.count_differing.Goals as goal
 

@@ -1,6 +1,4 @@
-use Rattle.std.proofs.Common.{◌≡◌, ◌≤◌}
-use Rattle.gm_shelf.specs.Disk.{sector_of}
-use Rattle.gm_apply.specs.DifferingData.{count_differing}
+use Rattle.gm_apply.proofs.Common.{◌≡◌, ◌≤◌, sector_of, count_differing}
 use Rattle.gm_apply.proofs.differing_data.count_differing.Given as goal
 
 abbrev pub invariant-loop-index : goal.invariant-loop-index

@@ -1,6 +1,4 @@
-use Rattle.std.proofs.Common.{◌≡◌, ℕ, length, take, rules, subst, arith}
-use Rattle.gm_shelf.proofs.Keeping.{only_then}
-use Rattle.gm_apply.specs.DifferingData.{IsDifference, IsWithin, sectors_from}
+use Rattle.gm_apply.proofs.Common.{◌≡◌, ℕ, length, take, rules, subst, arith, only_then, IsDifference, IsWithin, sectors_from}
 use Rattle.gm_apply.proofs.DifferingSectors.{difference_seen, difference_then, within_then}
 use Rattle.gm_apply.proofs.differing_data.differing_sectors.Goals as goal
 

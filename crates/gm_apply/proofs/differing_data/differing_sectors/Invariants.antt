@@ -1,6 +1,4 @@
-use Rattle.std.proofs.Common.{◌≤◌, ◌-◌}
-use Rattle.gm_shelf.specs.Keeping.{ReadsOnly}
-use Rattle.gm_apply.specs.DifferingData.{IsDifference, IsWithin}
+use Rattle.gm_apply.proofs.Common.{◌≤◌, ◌-◌, ReadsOnly, IsDifference, IsWithin}
 use Rattle.gm_apply.proofs.differing_data.differing_sectors.Given as goal
 
 abbrev pub invariant-loop-place : goal.invariant-loop-place

@@ -1,5 +1,4 @@
-use Rattle.std.proofs.Common.{◌≡◌, ◌+◌, ℕ, arith, rules, subst}
-use Rattle.gm_shelf.proofs.Keeping.{only_then}
+use Rattle.gm_apply.proofs.Common.{◌≡◌, ◌+◌, ℕ, arith, rules, subst, only_then}
 use Rattle.gm_apply.proofs.EqualSectors.{AreEqualBelow, counted, equal_part, part_counted, same_part}
 use Rattle.gm_apply.proofs.equal_data.compare_runs.Goals as goal
 

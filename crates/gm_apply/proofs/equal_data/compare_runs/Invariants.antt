@@ -1,5 +1,4 @@
-use Rattle.std.proofs.Common.{◌≤◌, ◌-◌}
-use Rattle.gm_shelf.specs.Keeping.{ReadsOnly}
+use Rattle.gm_apply.proofs.Common.{◌≤◌, ◌-◌, ReadsOnly}
 use Rattle.gm_apply.proofs.EqualSectors.{AreEqualBelow}
 use Rattle.gm_apply.proofs.equal_data.compare_runs.Given as goal
 

@@ -1,5 +1,4 @@
-use Rattle.std.proofs.Common.{◌≡◌, ◌<◌, ℕ}
-use Rattle.gm_shelf.specs.Disk.{sector_of}
+use Rattle.gm_apply.proofs.Common.{◌≡◌, ◌<◌, ℕ, sector_of}
 use Rattle.gm_apply.proofs.equal_data.equal_first.Given as goal
 
 abbrev pub invariant-loop-index : goal.invariant-loop-index

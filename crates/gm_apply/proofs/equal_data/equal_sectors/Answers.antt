@@ -1,6 +1,4 @@
-use Rattle.std.proofs.Common.{◌≡◌, ◌∙◌, ℕ, rules, sym, subst}
-use Rattle.std.proofs.lemmas.Slice.Eq.{bytes_eq-Decides}
-use Rattle.gm_apply.specs.EqualData.{CountsEqual, reach_of}
+use Rattle.gm_apply.proofs.Common.{◌≡◌, ◌∙◌, ℕ, rules, sym, subst, bytes_eq-Decides, CountsEqual, reach_of}
 use Rattle.gm_apply.proofs.EqualSectors.{itself_counted}
 use Rattle.gm_apply.proofs.equal_data.equal_sectors.Goals as goal
 

@@ -1,6 +1,4 @@
-use Rattle.std.proofs.Common.{[]}
-use Rattle.gm_state.proofs.PatchFound.{no_dirt_left}
-use Rattle.gm_state.proofs.ReadableIntents.{in_order, lent, copies_data}
+use Rattle.gm_apply.proofs.Common.{[], no_dirt_left, in_order, lent, copies_data}
 use Rattle.gm_apply.proofs.laws.readable_intents_are_safe.Goals as goal
 
 pub returns-clause-safe : goal.returns-clause-safe

@@ -1,4 +1,4 @@
-use Rattle.std.proofs.Common.{◌≡◌, ◌≤◌, ◌+◌, length, rules}
+use Rattle.gm_apply.proofs.Common.{◌≡◌, ◌≤◌, ◌+◌, length, rules}
 use Rattle.gm_apply.proofs.LaidBytes.{lay_going, lay_seen}
 use Rattle.gm_apply.proofs.Stretches.{none_held}
 use Rattle.gm_apply.proofs.patch.lay_run.Goals as goal

@@ -1,10 +1,4 @@
-use Rattle.std.proofs.Common.{rules, arith, List, subst}
-use Rattle.std.proofs.lemmas.List.{take_all}
-use Rattle.gm_metadata.specs.Images.{Sizes}
-use Rattle.gm_shelf.proofs.Keeping.{keeps_then}
-use Rattle.gm_lists.specs.Ordered.{Has}
-use Rattle.gm_state.specs.declared.intents.Intent.{Intent}
-use Rattle.gm_apply.specs.Redo.{LacksProvider, LacksSector}
+use Rattle.gm_apply.proofs.Common.{rules, arith, List, subst, take_all, Sizes, keeps_then, Has, Intent, LacksProvider, LacksSector}
 use Rattle.gm_apply.proofs.Others.{others_on}
 use Rattle.gm_apply.proofs.Lists.{has_index, index_done, index_moments, places_new}
 use Rattle.gm_apply.proofs.Steps.{Reaches}

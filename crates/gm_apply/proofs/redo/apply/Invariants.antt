@@ -1,9 +1,4 @@
-use Rattle.std.proofs.Common.{take}
-use Rattle.gm_metadata.specs.Images.{Image}
-use Rattle.gm_shelf.specs.Disk.{From}
-use Rattle.gm_shelf.specs.Keeping.{Keeps}
-use Rattle.gm_state.specs.Intents.{IsRedo}
-use Rattle.gm_apply.specs.Redo.{IsPartlyDone, CrashLeaves, KeepsOthers, is_written}
+use Rattle.gm_apply.proofs.Common.{take, Image, From, Keeps, IsRedo, IsPartlyDone, CrashLeaves, KeepsOthers, is_written}
 use Rattle.gm_apply.proofs.Steps.{Reaches}
 use Rattle.gm_apply.proofs.redo.apply.Given as goal
 

@@ -1,6 +1,4 @@
-use Rattle.gm_metadata.specs.Images.{zeros}
-use Rattle.gm_state.specs.declared.intents.Intent.TheVariants.{Clear, Copy, Dirty, Meta, Patch}
-use Rattle.gm_apply.specs.Calls.{CarriesOut}
+use Rattle.gm_apply.proofs.Common.{zeros, Clear, Copy, Dirty, Meta, Patch, CarriesOut}
 use Rattle.gm_apply.proofs.OneIntent.{copy_carried, dirty_carried, last_written, meta_carried, passed_on, patch_carried}
 use Rattle.gm_apply.proofs.redo.apply_one.Goals as goal
 

@@ -1,6 +1,4 @@
-use Rattle.std.proofs.Common.{Some}
-use Rattle.gm_metadata.specs.Reading.{encoded}
-use Rattle.gm_apply.specs.Calls.{WritesFound}
+use Rattle.gm_apply.proofs.Common.{Some, encoded, WritesFound}
 use Rattle.gm_apply.proofs.OneIntent.{found_written, last_written, passed_on}
 use Rattle.gm_apply.proofs.redo.write_found.Goals as goal
 

@@ -1,13 +1,5 @@
-use Rattle.std.proofs.Common.{◌≡◌, ◌∙◌, inl, inr, ◌++◌, ◌∷◌, [], List, ℕ, sym, ap, subst, arith, take, Some, None}
-use Rattle.std.proofs.lemmas.List.{take_all}
-use Rattle.gm_metadata.specs.Images.{Sizes}
-use Rattle.gm_lists.specs.Ordered.{Has}
-use Rattle.gm_refusals.specs.declared.facts.Fact.{Fact}
-use Rattle.gm_bench.specs.ShelfFacts.{IsFact, Tell, TellSizes}
-use Rattle.gm_shelf.proofs.Keeping.{only_then}
+use Rattle.gm_bench.proofs.Common.{◌≡◌, ◌∙◌, inl, inr, ◌++◌, ◌∷◌, [], List, ℕ, sym, ap, subst, arith, take, Some, None, take_all, Sizes, Has, Fact, IsFact, Tell, TellSizes, only_then, Has-push, has_left, has_last}
 use Rattle.gm_bench.proofs.FactsAreWorlds.{tell, tell_sizes, size_found, moved, fact_found, absent_found, covered_more}
-use Rattle.gm_lists.proofs.Lists.{Has-push}
-use Rattle.gm_looks.proofs.Pushed.{has_left, has_last}
 use Rattle.gm_bench.proofs.facts.facts_of.Goals as goal
 use Rattle.gm_bench.proofs.facts.facts_of.Goals.{in-Some+in-Ok, in-None}
 

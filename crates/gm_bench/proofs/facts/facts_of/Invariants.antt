@@ -1,8 +1,4 @@
-use Rattle.std.proofs.Common.{◌≡◌, List, ℕ, Some, take}
-use Rattle.gm_shelf.specs.Keeping.{ReadsOnly}
-use Rattle.gm_lists.specs.Ordered.{Has}
-use Rattle.gm_refusals.specs.declared.facts.Fact.{Fact}
-use Rattle.gm_bench.specs.ShelfFacts.{IsFact}
+use Rattle.gm_bench.proofs.Common.{◌≡◌, List, ℕ, Some, take, ReadsOnly, Has, Fact, IsFact}
 use Rattle.gm_bench.proofs.FactsAreWorlds.{IsCovered}
 use Rattle.gm_bench.proofs.facts.facts_of.Given as goal
 

@@ -1,6 +1,5 @@
-use Rattle.std.proofs.Common.{◌∙◌, ap}
+use Rattle.gm_bench.proofs.Common.{◌∙◌, ap, zeros}
 use Rattle.std.specs.Option.{unwrap_or}
-use Rattle.gm_metadata.specs.Images.{zeros}
 use Rattle.gm_shelf.proofs.LastRead.{last_read}
 use Rattle.gm_bench.proofs.facts.last_of.Goals as goal
 

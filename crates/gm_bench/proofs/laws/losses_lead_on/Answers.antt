@@ -1,9 +1,4 @@
-use Rattle.std.proofs.Common.{◌≡◌, List, sym, subst}
-use Rattle.std.specs.List.Sorted.{IsPermutation}
-use Rattle.gm_state.specs.declared.intents.Intent.{Intent}
-use Rattle.gm_state.specs.Rows.{intent_rows, patch_rows}
-use Rattle.gm_bench.specs.Leading.{KeepsClaims, Leads}
-use Rattle.gm_bench.specs.Losing.{as_left, left_to_lay}
+use Rattle.gm_bench.proofs.Common.{◌≡◌, List, sym, subst, IsPermutation, Intent, intent_rows, patch_rows, KeepsClaims, Leads, as_left, left_to_lay}
 use Rattle.gm_bench.proofs.LossReadable.{loss_of}
 use Rattle.gm_bench.proofs.Losses.{leads_to_loss, keeps_in_loss}
 use Rattle.gm_bench.proofs.laws.losses_lead_on.Goals as goal

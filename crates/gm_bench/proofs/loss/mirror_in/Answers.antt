@@ -1,5 +1,4 @@
-use Rattle.std.proofs.Common.{◌≡◌, ◌≢◌, ◌++◌, List, ℕ, subst}
-use Rattle.gm_bench.specs.Without.{AreOfLoss}
+use Rattle.gm_bench.proofs.Common.{◌≡◌, ◌≢◌, ◌++◌, List, ℕ, subst, AreOfLoss}
 use Rattle.gm_bench.proofs.LossIntents.{no_provider, no_space, no_label, unless_label}
 use Rattle.gm_bench.proofs.loss.mirror_in.Goals as goal
 

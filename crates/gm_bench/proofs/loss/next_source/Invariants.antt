@@ -1,5 +1,4 @@
-use Rattle.std.proofs.Common.{◌≡◌, drop}
-use Rattle.gm_bench.specs.Losing.{next_of}
+use Rattle.gm_bench.proofs.Common.{◌≡◌, drop, next_of}
 use Rattle.gm_bench.proofs.loss.next_source.Given as goal
 
 abbrev pub invariant-loop-intent : goal.invariant-loop-intent

@@ -1,10 +1,5 @@
-use Rattle.std.proofs.Common.{rules, ◌≤◌, Err, IfOk, length, sym, ap, subst}
-use Rattle.gm_state.specs.Records.{IsState}
-use Rattle.gm_commands.specs.Commands.{words_of}
-use Rattle.gm_changes.specs.Decides.{Changed, Makes}
-use Rattle.gm_refusals.specs.Seen.{seen_in}
+use Rattle.gm_bench.proofs.Common.{rules, ◌≤◌, Err, IfOk, length, sym, ap, subst, IsState, words_of, Changed, Makes, seen_in, IsFitting}
 use Rattle.gm_bench.proofs.Causes.{fault_is}
-use Rattle.gm_bench.specs.Planning.{IsFitting}
 use Rattle.gm_bench.proofs.FittingPlans.{made_fits, made_of}
 use Rattle.gm_bench.proofs.PlannedAlone.{planned_hand, planned_state}
 use Rattle.gm_bench.proofs.plan.decide_on.Goals as goal

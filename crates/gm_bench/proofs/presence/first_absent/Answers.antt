@@ -1,8 +1,4 @@
-use Rattle.std.proofs.Common.{◌≡◌, ◌∙◌, ◌∷◌, ◌+◌, Some, None, drop, sym, ap, arith}
-use Rattle.std.proofs.lemmas.List.{drop_more}
-use Rattle.gm_state.specs.declared.intents.Intent.{Intent}
-use Rattle.std.specs.Option.{option_or}
-use Rattle.gm_bench.specs.Presence.{absent_among, providers_in, first_absent}
+use Rattle.gm_bench.proofs.Common.{◌≡◌, ◌∙◌, ◌∷◌, ◌+◌, Some, None, drop, sym, ap, arith, drop_more, Intent, option_or, absent_among, providers_in, first_absent}
 use Rattle.gm_bench.proofs.Present.{first_of}
 use Rattle.gm_bench.proofs.presence.first_absent.Goals as goal
 

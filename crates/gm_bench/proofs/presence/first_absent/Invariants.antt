@@ -1,5 +1,4 @@
-use Rattle.std.proofs.Common.{◌≡◌, drop}
-use Rattle.gm_bench.specs.Presence.{first_absent}
+use Rattle.gm_bench.proofs.Common.{◌≡◌, drop, first_absent}
 use Rattle.gm_bench.proofs.presence.first_absent.Given as goal
 
 abbrev pub invariant-loop-intent : goal.invariant-loop-intent

@@ -1,11 +1,5 @@
-use Rattle.std.proofs.Common.{◌≡◌, ◌∙◌, inl, inr, ◌++◌, ◌∷◌, [], List, ℕ, sym, ap, subst, arith, take, Option, Some, None, MatchOption}
-use Rattle.std.proofs.lemmas.List.{take_all}
-use Rattle.gm_lists.specs.Ordered.{Has}
-use Rattle.gm_refusals.specs.Facts.{size_in}
-use Rattle.gm_refusals.specs.declared.facts.Fact.{Fact}
+use Rattle.gm_bench.proofs.Common.{◌≡◌, ◌∙◌, inl, inr, ◌++◌, ◌∷◌, [], List, ℕ, sym, ap, subst, arith, take, Option, Some, None, MatchOption, take_all, Has, size_in, Fact, Has-push, has_left, has_last}
 use Rattle.gm_bench.proofs.FactsAreWorlds.{tell_size, covered_more}
-use Rattle.gm_lists.proofs.Lists.{Has-push}
-use Rattle.gm_looks.proofs.Pushed.{has_left, has_last}
 use Rattle.gm_bench.proofs.sizes.sizes_of.Goals as goal
 use Rattle.gm_bench.proofs.sizes.sizes_of.Goals.{in-Some+in_ok-push, in_default}
 

@@ -1,6 +1,4 @@
-use Rattle.std.proofs.Common.{◌≡◌, List, ℕ, Some, take}
-use Rattle.gm_lists.specs.Ordered.{Has}
-use Rattle.gm_refusals.specs.declared.facts.Fact.{Fact}
+use Rattle.gm_bench.proofs.Common.{◌≡◌, List, ℕ, Some, take, Has, Fact}
 use Rattle.gm_bench.proofs.FactsAreWorlds.{IsCovered}
 use Rattle.gm_bench.proofs.sizes.sizes_of.Given as goal
 

@@ -1,9 +1,6 @@
-use Rattle.std.proofs.Common.{◌∙◌, sym, refl}
+use Rattle.gm_changes.proofs.Common.{◌∙◌, sym, refl, seen_in, some_from, member_found}
 use Rattle.gm_refusals.specs.declared.refusals.Refusal.TheVariants as refusals
-use Rattle.gm_refusals.specs.Seen.{seen_in}
-use Rattle.gm_refusals.proofs.NothingApplies.{some_from}
 use Rattle.gm_changes.proofs.MadeOfPart.{activate_made}
-use Rattle.gm_state.proofs.FoundRecords.{member_found}
 use Rattle.gm_changes.proofs.activate.activate.Goals as goal
 
 pub unwrap-mirror-requires : goal.unwrap-mirror-requires

@@ -1,13 +1,5 @@
-use Rattle.std.proofs.Common.{◌≡◌, refl, subst, true, ℕ, List}
-use Rattle.std.proofs.lemmas.Bool.{not-false}
-use Rattle.gm_lists.specs.Ordered.{Has}
-use Rattle.gm_lists.proofs.Finding.{none_any}
+use Rattle.gm_changes.proofs.Common.{◌≡◌, refl, subst, true, ℕ, List, not-false, Has, none_any, seen_in, is_there_and, size_in, is_adoptable, has_wrong_size, fits_32}
 use Rattle.gm_refusals.specs.declared.refusals.Refusal.TheVariants as refusals
-use Rattle.gm_refusals.specs.Seen.{seen_in, is_there_and}
-use Rattle.gm_refusals.specs.Facts.{size_in}
-use Rattle.gm_refusals.specs.Adoptable.{is_adoptable}
-use Rattle.gm_refusals.specs.Applies.{has_wrong_size}
-use Rattle.gm_refusals.proofs.NothingApplies.{fits_32}
 use Rattle.gm_changes.proofs.MadeOfPart.{adopt_made}
 use Rattle.gm_changes.proofs.adopt.adopt.Goals as goal
 

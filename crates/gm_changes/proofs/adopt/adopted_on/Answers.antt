@@ -1,6 +1,4 @@
-use Rattle.std.proofs.Common.{◌<◌, ◌^◌, ◌∙◌, sym, arith}
-use Rattle.gm_refusals.specs.Seen.{seen_in}
-use Rattle.gm_refusals.proofs.TakenProviders.{source_found, found_among, fitting_source, more_sectors}
+use Rattle.gm_changes.proofs.Common.{◌<◌, ◌^◌, ◌∙◌, sym, arith, seen_in, source_found, found_among, fitting_source, more_sectors}
 use Rattle.gm_changes.proofs.adopt.adopted_on.Goals as goal
 
 pub adopted-requires-clause-data : goal.adopted-requires-clause-data

@@ -1,9 +1,4 @@
-use Rattle.std.proofs.Common.{◌≡◌, ◌∙◌, sym, ap}
-use Rattle.gm_taste.specs.declared.tasted.Member.{Member}
-use Rattle.gm_lists.specs.Ordered.{Has}
-use Rattle.gm_lists.proofs.Sorting.{Contains-Has}
-use Rattle.gm_refusals.specs.Seen.{seen_in}
-use Rattle.gm_refusals.proofs.TakenProviders.{taken_name}
+use Rattle.gm_changes.proofs.Common.{◌≡◌, ◌∙◌, sym, ap, Member, Has, Contains-Has, seen_in, taken_name}
 use Rattle.gm_changes.proofs.adopt.components_of.Goals as goal
 
 pub adopted_component-requires-clause-size : goal.adopted_component-requires-clause-size

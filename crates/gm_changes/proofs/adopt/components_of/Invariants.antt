@@ -1,7 +1,4 @@
-use Rattle.std.proofs.Common.{◌≡◌, ◌++◌, drop, map}
-use Rattle.gm_taste.specs.Tasting.{member}
-use Rattle.gm_refusals.specs.Seen.{seen_in}
-use Rattle.gm_refusals.specs.Adoptable.{adopted_component, all_taken}
+use Rattle.gm_changes.proofs.Common.{◌≡◌, ◌++◌, drop, map, member, seen_in, adopted_component, all_taken}
 use Rattle.gm_changes.proofs.adopt.components_of.Given as goal
 
 abbrev pub invariant-loop-provider : goal.invariant-loop-provider

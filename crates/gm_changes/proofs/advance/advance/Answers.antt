@@ -1,10 +1,7 @@
-use Rattle.std.proofs.Common.{◌∙◌, sym, refl}
+use Rattle.gm_changes.proofs.Common.{◌∙◌, sym, refl, seen_in, some_from, home_of, member_found}
 use Rattle.gm_refusals.specs.declared.refusals.Refusal.TheVariants as refusals
-use Rattle.gm_refusals.specs.Seen.{seen_in}
-use Rattle.gm_refusals.proofs.NothingApplies.{some_from}
 use Rattle.gm_changes.proofs.LendingComponent.{held_small, is_copying, lender}
 use Rattle.gm_changes.proofs.MadeOfPart.{advance_made}
-use Rattle.gm_state.proofs.FoundRecords.{home_of, member_found}
 use Rattle.gm_changes.proofs.advance.advance.Goals as goal
 
 pub unwrap-mirror-requires : goal.unwrap-mirror-requires

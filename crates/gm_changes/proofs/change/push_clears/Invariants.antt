@@ -1,5 +1,4 @@
-use Rattle.std.proofs.Common.{◌≡◌, ◌++◌, take}
-use Rattle.gm_changes.specs.After.{clears_of}
+use Rattle.gm_changes.proofs.Common.{◌≡◌, ◌++◌, take, clears_of}
 use Rattle.gm_changes.proofs.change.push_clears.Given as goal
 
 abbrev pub invariant-loop-k : goal.invariant-loop-k

@@ -1,5 +1,4 @@
-use Rattle.std.proofs.Common.{◌≡◌, ◌++◌, take}
-use Rattle.gm_changes.specs.After.{metas}
+use Rattle.gm_changes.proofs.Common.{◌≡◌, ◌++◌, take, metas}
 use Rattle.gm_changes.proofs.change.push_metas.Given as goal
 
 abbrev pub invariant-loop-k : goal.invariant-loop-k

@@ -1,10 +1,6 @@
-use Rattle.std.proofs.Common.{◌≡◌, ◌∙◌, sym, ap₂, subst}
-use Rattle.gm_state.specs.Records.{Records, provider, name}
-use Rattle.gm_lists.specs.Ordered.{Ascends, put_all, without_all}
-use Rattle.gm_changes.specs.Decides.{Changed, changed_by, put_some, without_some}
+use Rattle.gm_changes.proofs.Common.{◌≡◌, ◌∙◌, sym, ap₂, subst, Records, provider, name, Ascends, put_all, without_all, Changed, changed_by, put_some, without_some, Ascends-without_all}
 use Rattle.gm_changes.proofs.MakesChange.{without_all-filter}
 use Rattle.gm_changes.proofs.ReplacedRecords.{some_state, none_state, Ascends-without_some}
-use Rattle.gm_lists.proofs.PutInPlace.{Ascends-without_all}
 use Rattle.gm_changes.proofs.changed_state.changed_by.Goals as goal
 
 mirrors_left : (c : goal.After-new)

@@ -1,9 +1,4 @@
-use Rattle.std.proofs.Common.{◌≡◌, ◌∙◌, sym, ap, subst, List}
-use Rattle.std.proofs.lemmas.List.{drop_all}
-use Rattle.gm_state.specs.declared.records.Component.{Component}
-use Rattle.gm_state.specs.Records.{provider}
-use Rattle.gm_lists.specs.Ordered.{Ascends, put, put_all}
-use Rattle.gm_lists.proofs.Putting.{Ascends-put}
+use Rattle.gm_changes.proofs.Common.{◌≡◌, ◌∙◌, sym, ap, subst, List, drop_all, Component, provider, Ascends, put, put_all, Ascends-put}
 use Rattle.gm_changes.proofs.ReplacedRecords.{put_more}
 use Rattle.gm_changes.proofs.changed_state.with_all.Goals as goal
 

@@ -1,6 +1,4 @@
-use Rattle.std.proofs.Common.{◌≡◌, drop}
-use Rattle.gm_state.specs.Records.{provider}
-use Rattle.gm_lists.specs.Ordered.{Ascends, put_all}
+use Rattle.gm_changes.proofs.Common.{◌≡◌, drop, provider, Ascends, put_all}
 use Rattle.gm_changes.proofs.changed_state.with_all.Given as goal
 
 abbrev pub invariant-loop-component : goal.invariant-loop-component

@@ -1,8 +1,4 @@
-use Rattle.std.proofs.Common.{◌∙◌, ap, subst, List}
-use Rattle.gm_state.specs.declared.records.Component.{Component}
-use Rattle.gm_state.specs.Records.{provider}
-use Rattle.gm_lists.specs.Ordered.{Has, put}
-use Rattle.gm_lists.proofs.PutInPlace.{left_differs, put_without}
+use Rattle.gm_changes.proofs.Common.{◌∙◌, ap, subst, List, Component, provider, Has, put, left_differs, put_without}
 use Rattle.gm_changes.proofs.changed_state.with_component.Goals as goal
 
 pub put-requires : goal.put-requires

@@ -1,8 +1,4 @@
-use Rattle.std.proofs.Common.{◌≡◌, ◌∙◌, ap, ap₂}
-use Rattle.std.specs.List.{insert, prefix_len}
-use Rattle.gm_state.specs.Records.{name}
-use Rattle.gm_lists.specs.Ordered.{label_lt, without}
-use Rattle.gm_lists.proofs.PutInPlace.{placed}
+use Rattle.gm_changes.proofs.Common.{◌≡◌, ◌∙◌, ap, ap₂, insert, prefix_len, name, label_lt, without, placed}
 use Rattle.gm_changes.proofs.changed_state.with_mirror.Goals as goal
 
 pub returns : goal.returns

@@ -1,7 +1,5 @@
-use Rattle.std.proofs.Common.{◌∙◌, sym, refl}
+use Rattle.gm_changes.proofs.Common.{◌∙◌, sym, refl, seen_in, some_from}
 use Rattle.gm_refusals.specs.declared.refusals.Refusal.TheVariants as refusals
-use Rattle.gm_refusals.specs.Seen.{seen_in}
-use Rattle.gm_refusals.proofs.NothingApplies.{some_from}
 use Rattle.gm_changes.proofs.MadeOfPart.{configure_made}
 use Rattle.gm_changes.proofs.configure.configure.Goals as goal
 

@@ -1,5 +1,4 @@
-use Rattle.gm_refusals.specs.Seen.{seen_in}
-use Rattle.gm_refusals.proofs.NothingApplies.{some_from, fits_32, label_size}
+use Rattle.gm_changes.proofs.Common.{seen_in, some_from, fits_32, label_size}
 use Rattle.gm_changes.proofs.MadeOfPart.{label_made}
 use Rattle.gm_changes.proofs.decision.change_of.Goals as goal
 

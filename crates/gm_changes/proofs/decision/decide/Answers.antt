@@ -1,9 +1,4 @@
-use Rattle.std.proofs.Common.{◌∙◌, sym, ap, length, subst}
-use Rattle.gm_state.specs.Records.{Records}
-use Rattle.gm_refusals.specs.Seen.{seen_in}
-use Rattle.gm_refusals.specs.Applies.{IsGood}
-use Rattle.gm_refusals.specs.PartOf.{IsPartToDecide}
-use Rattle.gm_refusals.proofs.PartAgrees.{whole_to_decide}
+use Rattle.gm_changes.proofs.Common.{◌∙◌, sym, ap, length, subst, Records, seen_in, IsGood, IsPartToDecide, whole_to_decide}
 use Rattle.gm_changes.proofs.MadeOfPart.{on_err}
 use Rattle.gm_changes.proofs.decision.decide.Goals as goal
 

@@ -1,14 +1,7 @@
-use Rattle.std.proofs.Common.{rules, ◌≡◌, ◌∙◌, refl, sym, length, Ok, Err}
-use Rattle.gm_state.specs.Records.{Records}
-use Rattle.gm_refusals.specs.Seen.{seen_in}
-use Rattle.gm_refusals.specs.Applies.{IsLeast, IsGood}
-use Rattle.gm_refusals.specs.PartOf.{IsPartToDecide, IsGoodButCount}
-use Rattle.gm_changes.specs.PartChange.{IsMade}
-use Rattle.gm_refusals.proofs.NothingApplies.{is_least}
+use Rattle.gm_changes.proofs.Common.{rules, ◌≡◌, ◌∙◌, refl, sym, length, Ok, Err, Records, seen_in, IsLeast, IsGood, IsPartToDecide, IsGoodButCount, IsMade, is_least, whole_to_decide}
 use Rattle.gm_changes.proofs.DecidedInWorld.{in_world}
 use Rattle.gm_changes.proofs.LeavesPart.{made_leaves}
 use Rattle.gm_changes.proofs.MadeOfPart.{found_on, none_on, good_on, good_alone, on_err}
-use Rattle.gm_refusals.proofs.PartAgrees.{whole_to_decide}
 use Rattle.gm_changes.proofs.decision.decide_part.Goals as goal
 
 pub returns-in-Some : goal.returns-in-Some

@@ -1,5 +1,4 @@
-use Rattle.std.proofs.Common.{◌∙◌, sym}
-use Rattle.gm_refusals.specs.Seen.{seen_in}
+use Rattle.gm_changes.proofs.Common.{◌∙◌, sym, seen_in}
 use Rattle.gm_changes.proofs.MadeOfPart.{destroy_made}
 use Rattle.gm_changes.proofs.destroy.destroy.Goals as goal
 

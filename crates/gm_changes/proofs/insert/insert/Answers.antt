@@ -1,17 +1,5 @@
-use Rattle.std.proofs.Common.{◌∙◌, sym, refl, subst, List, is_none, is_some}
-use Rattle.std.proofs.lemmas.Bool.{or_parts}
-use Rattle.gm_metadata.specs.Images.{same_label}
-use Rattle.gm_state.specs.declared.records.Component.{Component}
-use Rattle.gm_lists.specs.Ordered.{Has}
-use Rattle.gm_state.specs.Lookups.{component_of}
-use Rattle.gm_lists.proofs.Lists.{Has-filter}
+use Rattle.gm_changes.proofs.Common.{◌∙◌, sym, refl, subst, List, is_none, is_some, or_parts, same_label, Component, Has, component_of, Has-filter, seen_in, is_there_and, has_wrong_size, size_in, any_one, some_from, none_from, fits_32, few_all, new_name}
 use Rattle.gm_refusals.specs.declared.refusals.Refusal.TheVariants as refusals
-use Rattle.gm_refusals.specs.Seen.{seen_in, is_there_and}
-use Rattle.gm_refusals.specs.Applies.{has_wrong_size}
-use Rattle.gm_refusals.specs.Facts.{size_in}
-use Rattle.gm_lists.proofs.Finding.{any_one}
-use Rattle.gm_refusals.proofs.NothingApplies.{some_from, none_from, fits_32}
-use Rattle.gm_state.proofs.FoundRecords.{few_all, new_name}
 use Rattle.gm_changes.proofs.MadeOfPart.{insert_made}
 use Rattle.gm_changes.proofs.insert.insert.Goals as goal
 

@@ -1,7 +1,5 @@
-use Rattle.std.proofs.Common.{◌∙◌, ◌+◌, ◌≤◌, arith, length, sym, refl}
+use Rattle.gm_changes.proofs.Common.{◌∙◌, ◌+◌, ◌≤◌, arith, length, sym, refl, seen_in, ends_within, few_data, one_more_sync, some_from}
 use Rattle.gm_refusals.specs.declared.refusals.Refusal.TheVariants as refusals
-use Rattle.gm_refusals.specs.Seen.{seen_in}
-use Rattle.gm_refusals.proofs.NothingApplies.{ends_within, few_data, one_more_sync, some_from}
 use Rattle.gm_changes.proofs.MadeOfPart.{patch_made}
 use Rattle.gm_changes.proofs.patch.patch.Goals as goal
 

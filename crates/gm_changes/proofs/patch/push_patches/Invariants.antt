@@ -1,5 +1,4 @@
-use Rattle.std.proofs.Common.{◌≡◌, ◌++◌, flat_map, take}
-use Rattle.gm_changes.specs.After.{active_of, patching}
+use Rattle.gm_changes.proofs.Common.{◌≡◌, ◌++◌, flat_map, take, active_of, patching}
 use Rattle.gm_changes.proofs.patch.push_patches.Given as goal
 
 abbrev pub invariant-loop-k : goal.invariant-loop-k

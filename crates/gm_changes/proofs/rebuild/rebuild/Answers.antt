@@ -1,8 +1,6 @@
-use Rattle.std.proofs.Common.{◌∙◌, sym, refl}
+use Rattle.gm_changes.proofs.Common.{◌∙◌, sym, refl, seen_in, member_found}
 use Rattle.gm_refusals.specs.declared.refusals.Refusal.TheVariants as refusals
-use Rattle.gm_refusals.specs.Seen.{seen_in}
 use Rattle.gm_changes.proofs.MadeOfPart.{rebuild_made}
-use Rattle.gm_state.proofs.FoundRecords.{member_found}
 use Rattle.gm_changes.proofs.rebuild.rebuild.Goals as goal
 
 pub unwrap-component-requires : goal.unwrap-component-requires

@@ -1,8 +1,5 @@
-use Rattle.std.proofs.Common.{◌∙◌, sym, refl}
+use Rattle.gm_changes.proofs.Common.{◌∙◌, sym, refl, seen_in, some_from, some_all}
 use Rattle.gm_refusals.specs.declared.refusals.Refusal.TheVariants as refusals
-use Rattle.gm_refusals.specs.Seen.{seen_in}
-use Rattle.gm_refusals.proofs.NothingApplies.{some_from}
-use Rattle.gm_state.proofs.FoundRecords.{some_all}
 use Rattle.gm_changes.proofs.MadeOfPart.{remove_made}
 use Rattle.gm_changes.proofs.remove.remove.Goals as goal
 

@@ -1,6 +1,4 @@
-use Rattle.std.proofs.Common.{take}
-use Rattle.std.specs.Prelude.{IsTrue}
-use Rattle.gm_commands.specs.Sectors.{is_bytes}
+use Rattle.gm_commands.proofs.Common.{take, IsTrue, is_bytes}
 use Rattle.gm_commands.proofs.canonical_words.bytes_fit.Given as goal
 
 abbrev pub invariant-loop-byte : goal.invariant-loop-byte

@@ -1,6 +1,4 @@
-use Rattle.std.specs.Prelude.{codes}
-use Rattle.std.specs.String.{string_bytes}
-use Rattle.gm_commands.specs.Commands.{balance_words, given_switch, preference_words, slice_words}
+use Rattle.gm_commands.proofs.Common.{codes, string_bytes, balance_words, given_switch, preference_words, slice_words}
 use Rattle.gm_commands.proofs.JoinedWords.{configure_line, ok_is}
 use Rattle.gm_commands.proofs.canonical_words.configure_words.Goals as goal
 

@@ -1,6 +1,4 @@
-use Rattle.std.specs.Prelude.{codes}
-use Rattle.std.specs.Fmt.{decimal}
-use Rattle.std.specs.String.{string_bytes}
+use Rattle.gm_commands.proofs.Common.{codes, decimal, string_bytes}
 use Rattle.gm_commands.proofs.JoinedWords.{ok_is, spaced_pair}
 use Rattle.gm_commands.proofs.canonical_words.given_slice.Goals as goal
 

@@ -1,5 +1,4 @@
-use Rattle.std.proofs.Common.{◌∙◌}
-use Rattle.std.specs.String.{string_bytes}
+use Rattle.gm_commands.proofs.Common.{◌∙◌, string_bytes}
 use Rattle.gm_commands.proofs.JoinedWords.{label_line, ok_is}
 use Rattle.gm_commands.proofs.canonical_words.label_words.Goals as goal
 

@@ -1,8 +1,5 @@
-use Rattle.std.proofs.Common.{◌∙◌, ap, sym, refl, take_all}
-use Rattle.std.specs.List.{list_all}
+use Rattle.gm_commands.proofs.Common.{◌∙◌, ap, sym, refl, take_all, list_all, and_from, is_label}
 use Rattle.std.proofs.lemmas.List.Folds.{list_all_more}
-use Rattle.std.proofs.lemmas.Bool.{and_from}
-use Rattle.gm_metadata.specs.Labels.{is_label}
 use Rattle.gm_commands.proofs.canonical_words.labels_fit.Goals as goal
 
 pub loop-provider-init : goal.loop-provider-init

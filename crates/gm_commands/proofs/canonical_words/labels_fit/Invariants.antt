@@ -1,7 +1,4 @@
-use Rattle.std.proofs.Common.{take}
-use Rattle.std.specs.Prelude.{IsTrue}
-use Rattle.std.specs.List.{list_all}
-use Rattle.gm_metadata.specs.Labels.{is_label}
+use Rattle.gm_commands.proofs.Common.{take, IsTrue, list_all, is_label}
 use Rattle.gm_commands.proofs.canonical_words.labels_fit.Given as goal
 
 abbrev pub invariant-loop-provider : goal.invariant-loop-provider

@@ -1,4 +1,4 @@
-use Rattle.std.specs.String.{string_bytes}
+use Rattle.gm_commands.proofs.Common.{string_bytes}
 use Rattle.gm_commands.proofs.JoinedWords.{row_line, ok_is}
 use Rattle.gm_commands.proofs.canonical_words.row_words.Goals as goal
 

@@ -1,9 +1,5 @@
-use Rattle.std.proofs.Common.{rules, arith, ◌≡◌, ◌≢◌, ◌∙◌, ap, refl, inl}
+use Rattle.gm_front.proofs.Common.{rules, arith, ◌≡◌, ◌≢◌, ◌∙◌, ap, refl, inl, Appends, End, AppendsFront, asked_at, asked_of}
 use Rattle.std.proofs.lemmas.Option.{IfSome_then}
-use Rattle.std.specs.Io.KnownBytes.{Appends}
-use Rattle.gm_lines.specs.declared.lines.Line.TheVariants.{End}
-use Rattle.gm_front.specs.Batch.{AppendsFront}
-use Rattle.gm_lines.specs.Asked.{asked_at, asked_of}
 use Rattle.gm_front.proofs.Turns.{begun, broken, comes_so, comes_to, far_failed, far_on, finished, front_all, goes_on, kept_before, one_more, stopped, takes_after, told_in_part, told_wholly}
 use Rattle.gm_front.proofs.answer_lines.answer_lines.Goals as goal
 

@@ -1,7 +1,4 @@
-use Rattle.std.proofs.Common.{◌≡◌, ◌≢◌, IfSome}
-use Rattle.gm_bench.specs.declared.phase.Progress.TheVariants.{Failed}
-use Rattle.gm_bench.specs.Phases.{TakesNext}
-use Rattle.gm_lines.specs.Asked.{IsAhead}
+use Rattle.gm_front.proofs.Common.{◌≡◌, ◌≢◌, IfSome, Failed, TakesNext, IsAhead}
 use Rattle.gm_front.proofs.Turns.{Going}
 use Rattle.gm_front.proofs.answer_lines.answer_lines.Given as goal
 

@@ -1,7 +1,4 @@
-use Rattle.std.proofs.Common.{rules, arith, ◌∙◌, Err, ap, refl, inl}
-use Rattle.gm_registry.specs.Registry.{DiskKept}
-use Rattle.gm_front.specs.declared.answer_lines.FrontFault.TheVariants.{Memory}
-use Rattle.gm_front.specs.Batch.{AppendsFront}
+use Rattle.gm_front.proofs.Common.{rules, arith, ◌∙◌, Err, ap, refl, inl, DiskKept, Memory, AppendsFront}
 use Rattle.gm_front.proofs.Settled.{ended_progress, ends_rest, same_fault}
 use Rattle.gm_front.proofs.Turns.{begun, broken, front_all}
 use Rattle.gm_front.proofs.answer_lines.heard_batch.Goals as goal

@@ -1,6 +1,4 @@
-use Rattle.std.proofs.Common.{◌∙◌, Err, sym, subst}
-use Rattle.gm_bench.specs.declared.phase.Progress.{Progress}
-use Rattle.gm_front.specs.Batch.{Batches, HandsIn, unsettled_fault}
+use Rattle.gm_front.proofs.Common.{◌∙◌, Err, sym, subst, Progress, Batches, HandsIn, unsettled_fault}
 use Rattle.gm_front.proofs.Settled.{ends_rest, ends_settled, ends_unsettled, has_applied, takes_rest}
 use Rattle.gm_front.proofs.answer_lines.settled.Goals as goal
 

@@ -1,4 +1,4 @@
-use Rattle.std.specs.Io.KnownBytes.{Keeps}
+use Rattle.gm_front.proofs.Common.{Keeps}
 use Rattle.gm_front.proofs.answer_lines.write_some.Given as goal
 
 abbrev pub invariant-loop : goal.invariant-loop

@@ -1,5 +1,4 @@
-use Rattle.std.proofs.Common.{rules, arith, ◌≡◌, ◌-◌, length, take, drop}
-use Rattle.std.proofs.lemmas.List.{take_all, length-drop}
+use Rattle.gm_front.proofs.Common.{rules, arith, ◌≡◌, ◌-◌, length, take, drop, take_all, length-drop}
 use Rattle.gm_front.proofs.WrittenBytes.{more_appended}
 use Rattle.gm_front.proofs.answer_lines.write_whole.Goals as goal
 

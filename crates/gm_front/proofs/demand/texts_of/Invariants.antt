@@ -1,6 +1,5 @@
-use Rattle.std.proofs.Common.{◌≡◌, map, take}
+use Rattle.gm_front.proofs.Common.{◌≡◌, map, take, texts}
 use Rattle.std.specs.String.{string_bytes}
-use Rattle.gm_words.specs.Lines.{texts}
 use Rattle.gm_front.proofs.demand.texts_of.Given as goal
 
 -- the texts of the words so far

@@ -1,7 +1,5 @@
-use Rattle.std.proofs.Common.{◌≡◌, sym, ap, Ok, Err}
-use Rattle.gm_metadata.specs.Reading.{decode_of}
+use Rattle.gm_front.proofs.Common.{◌≡◌, sym, ap, Ok, Err, decode_of, told_as}
 use Rattle.gm_http.specs.declared.status.Status.TheVariants as status
-use Rattle.gm_front.specs.Demands.{told_as}
 use Rattle.gm_front.proofs.finding.decoded_told.Goals as goal
 
 pub returns-in_ok-body-in-Ok : goal.returns-in_ok-body-in-Ok

@@ -1,11 +1,5 @@
-use Rattle.std.proofs.Common.{◌≡◌, refl, ap, Err, []}
-use Rattle.gm_rows.specs.ReadableTables.{AreRecordsOf, AreTablesOf}
-use Rattle.gm_bench.proofs.FactsLookedUp.{honest_to_adopt}
-use Rattle.gm_bench.proofs.ReadTables.{pending_none}
+use Rattle.gm_front.proofs.Common.{◌≡◌, refl, ap, Err, [], AreRecordsOf, AreTablesOf, honest_to_adopt, pending_none, mirror_json, status_json, mirror_told, told_as, sees_registry}
 use Rattle.gm_http.specs.declared.status.Status.TheVariants as status
-use Rattle.gm_json.specs.Mirrors.{mirror_json, status_json}
-use Rattle.gm_front.specs.Demands.{mirror_told, told_as}
-use Rattle.gm_registry.proofs.ReadsInTurn.{sees_registry}
 use Rattle.gm_front.proofs.Found.{look_fails, records_shown, stays_at_rest, store_of, tables_shown}
 use Rattle.gm_front.proofs.finding.find.Goals as goal
 

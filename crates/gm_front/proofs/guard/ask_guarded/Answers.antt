@@ -1,14 +1,4 @@
-use Rattle.std.proofs.Common.{rules, arith, ◌≡◌, ◌∙◌, sym, ap, subst, List, [], Err, length}
-use Rattle.gm_state.proofs.Suffixes.{none_left}
-use Rattle.gm_looks.specs.declared.unlike.Unlike.{Unlike}
-use Rattle.gm_registry.specs.Fitting.{HasRoom}
-use Rattle.gm_registry.specs.Registry.{DiskKept}
-use Rattle.gm_bench.specs.Benches.{registry_of}
-use Rattle.gm_bench.specs.Calls.{most_rows}
-use Rattle.gm_bench.proofs.Looks.{looked_at}
-use Rattle.gm_bench.proofs.StoreFails.{failed_behind}
-use Rattle.gm_front.specs.Guards.{StoodInTheWay}
-use Rattle.gm_lines.specs.Asked.{Call, asked_of}
+use Rattle.gm_front.proofs.Common.{rules, arith, ◌≡◌, ◌∙◌, sym, ap, subst, List, [], Err, length, none_left, Unlike, HasRoom, DiskKept, registry_of, most_rows, looked_at, failed_behind, StoodInTheWay, Call, asked_of}
 use Rattle.gm_front.proofs.Found.{records_shown, store_of}
 use Rattle.gm_front.proofs.ManyLooks.{looks_nothing, same_call}
 use Rattle.gm_front.proofs.StoreTold.{store_told}

@@ -1,14 +1,4 @@
-use Rattle.std.proofs.Common.{rules, arith, ◌≡◌, inl, sym, subst, Result, Err, None, Vec, Global}
-use Rattle.gm_refusals.specs.Applies.{is_about}
-use Rattle.gm_looks.specs.Unlikes.{IsUnlike}
-use Rattle.gm_looks.specs.declared.unlike.Unlike.{Unlike}
-use Rattle.gm_registry.specs.Registry.{DiskKept}
-use Rattle.gm_registry.proofs.ReadsInTurn.{sees_registry}
-use Rattle.gm_bench.specs.Benches.{registry_of}
-use Rattle.gm_bench.specs.KeptCommands.{TellsKept}
-use Rattle.gm_bench.specs.declared.fault.BenchFault.{BenchFault}
-use Rattle.gm_bench.proofs.StoreFails.{failed_behind}
-use Rattle.gm_front.specs.Guards.{OnlyLooks}
+use Rattle.gm_front.proofs.Common.{rules, arith, ◌≡◌, inl, sym, subst, Result, Err, None, Vec, Global, is_about, IsUnlike, Unlike, DiskKept, sees_registry, registry_of, TellsKept, BenchFault, failed_behind, OnlyLooks}
 use Rattle.gm_front.proofs.ManyLooks.{looks_then}
 use Rattle.gm_front.proofs.guard.in_the_way.Goals as goal
 

@@ -1,8 +1,5 @@
-use Rattle.std.proofs.Common.{rules, refl, inl, subst}
-use Rattle.std.proofs.KnownBytes.{Keeps-refl}
+use Rattle.gm_front.proofs.Common.{rules, refl, inl, subst, Keeps-refl, Demand, FindsUnlessWithheld, HadNothing}
 use Rattle.gm_http.specs.Requests.{asked_of}
-use Rattle.gm_front.specs.Demands.{Demand}
-use Rattle.gm_front.specs.GuardedServices.{FindsUnlessWithheld, HadNothing}
 use Rattle.gm_front.proofs.Withholding.{guarded_served}
 use Rattle.gm_front.proofs.guarded_service.respond_guarded.Goals as goal
 

@@ -1,5 +1,4 @@
-use Rattle.std.proofs.Common.{refl, inl}
-use Rattle.std.proofs.KnownBytes.{Keeps-refl}
+use Rattle.gm_front.proofs.Common.{refl, inl, Keeps-refl}
 use Rattle.gm_front.proofs.guarded_service.serve_request_guarded.Goals as goal
 
 pub returns-in-Err-Memory-clause-serves : goal.returns-in-Err-Memory-clause-serves

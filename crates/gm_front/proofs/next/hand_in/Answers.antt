@@ -1,9 +1,4 @@
-use Rattle.std.proofs.Common.{Err, inl, ap, arith}
-use Rattle.gm_registry.specs.Registry.{DiskKept}
-use Rattle.gm_bench.specs.Phases.{phase_of}
-use Rattle.gm_bench.proofs.FactsLookedUp.{honest_to_adopt}
-use Rattle.gm_bench.proofs.Standing.{carried_records, carried_so, carried_tables, else_none}
-use Rattle.gm_bench.proofs.StoreFails.{failed_behind}
+use Rattle.gm_front.proofs.Common.{Err, inl, ap, arith, DiskKept, phase_of, honest_to_adopt, carried_records, carried_so, carried_tables, else_none, failed_behind}
 use Rattle.gm_front.proofs.NextLines.{kept_waiting, passed_on, settled_next, unsettled_next}
 use Rattle.gm_front.proofs.next.hand_in.Goals as goal
 

@@ -1,9 +1,4 @@
-use Rattle.std.proofs.Common.{ap, Err, []}
-use Rattle.gm_rows.specs.ReadableTables.{AreRecordsOf, AreTablesOf}
-use Rattle.gm_bench.specs.Leading.{whole}
-use Rattle.gm_bench.proofs.FactsLookedUp.{honest_to_adopt}
-use Rattle.gm_bench.proofs.ReadTables.{pending_none, tables_of}
-use Rattle.gm_lines.specs.Asked.{asked_of}
+use Rattle.gm_front.proofs.Common.{ap, Err, [], AreRecordsOf, AreTablesOf, whole, honest_to_adopt, pending_none, tables_of, asked_of}
 use Rattle.gm_front.proofs.outcome.ask.Goals as goal
 
 pub returns-in-Err-clause-comes : goal.returns-in-Err-clause-comes

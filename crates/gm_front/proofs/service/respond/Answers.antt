@@ -1,8 +1,5 @@
-use Rattle.std.proofs.Common.{rules, refl, inl, subst}
-use Rattle.std.proofs.KnownBytes.{Keeps-refl}
+use Rattle.gm_front.proofs.Common.{rules, refl, inl, subst, Keeps-refl, Demand, ComesToFinding}
 use Rattle.gm_http.specs.Requests.{asked_of}
-use Rattle.gm_front.specs.Demands.{Demand}
-use Rattle.gm_front.specs.Findings.{ComesToFinding}
 use Rattle.gm_front.proofs.RequestsServed.{served}
 use Rattle.gm_front.proofs.service.respond.Goals as goal
 

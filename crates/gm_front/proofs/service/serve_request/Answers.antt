@@ -1,5 +1,4 @@
-use Rattle.std.proofs.Common.{refl, inl}
-use Rattle.std.proofs.KnownBytes.{Keeps-refl}
+use Rattle.gm_front.proofs.Common.{refl, inl, Keeps-refl}
 use Rattle.gm_front.proofs.service.serve_request.Goals as goal
 
 pub returns-in-Ok-clause-serves : goal.returns-in-Ok-clause-serves

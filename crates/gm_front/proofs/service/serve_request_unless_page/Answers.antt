@@ -1,5 +1,4 @@
-use Rattle.std.proofs.Common.{refl, inl, inr}
-use Rattle.std.proofs.KnownBytes.{Keeps-refl}
+use Rattle.gm_front.proofs.Common.{refl, inl, inr, Keeps-refl}
 use Rattle.gm_front.proofs.Pages.{nothing_written, sent_anyhow, sent_by_program}
 use Rattle.gm_front.proofs.service.serve_request_unless_page.Goals as goal
 

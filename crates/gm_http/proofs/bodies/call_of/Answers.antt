@@ -1,8 +1,4 @@
-use Rattle.std.proofs.Common.{rules, ◌≡◌, ◌∙◌, sym, ap, subst, Option, Some, IfOk}
-use Rattle.std.specs.Prelude.{option_and_then, option_map}
-use Rattle.serde_json.specs.Read.{read}
-use Rattle.serde_json.specs.View.{view}
-use Rattle.gm_http.specs.Bodies.{Call, call_in, texts_in}
+use Rattle.gm_http.proofs.Common.{rules, ◌≡◌, ◌∙◌, sym, ap, subst, Option, Some, IfOk, option_and_then, option_map, read, view, Call, call_in, texts_in}
 use Rattle.gm_http.proofs.Calls.{call_of_other, call_of_text}
 use Rattle.gm_http.proofs.bodies.call_of.Goals as goal
 

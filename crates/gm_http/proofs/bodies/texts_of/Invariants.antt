@@ -1,7 +1,4 @@
-use Rattle.std.proofs.Common.{◌≡◌, ◌++◌, map, drop, string_bytes}
-use Rattle.std.specs.Prelude.{option_map}
-use Rattle.serde_json.specs.View.{items_view}
-use Rattle.gm_http.specs.Bodies.{texts_of}
+use Rattle.gm_http.proofs.Common.{◌≡◌, ◌++◌, map, drop, string_bytes, option_map, items_view, texts_of}
 use Rattle.gm_http.proofs.bodies.texts_of.Given as goal
 
 -- the texts so far, and those of the rest, are those of all

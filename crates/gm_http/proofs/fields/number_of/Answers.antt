@@ -1,7 +1,4 @@
-use Rattle.std.proofs.Common.{rules, ◌≡◌, ◌≤◌, ◌∙◌, true, length}
-use Rattle.std.specs.Char.{is_ascii_digit}
-use Rattle.std.specs.List.{list_all}
-use Rattle.std.specs.Str.Parse.{ParsesUnsigned}
+use Rattle.gm_http.proofs.Common.{rules, ◌≡◌, ◌≤◌, ◌∙◌, true, length, is_ascii_digit, list_all, ParsesUnsigned}
 use Rattle.gm_http.proofs.Digits.{digits_are_text, number_read}
 use Rattle.gm_http.proofs.fields.number_of.Goals as goal
 

@@ -1,7 +1,5 @@
-use Rattle.std.proofs.Common.{◌∙◌, ◌+◌, ◌++◌, [], ◌∷◌, List, ℕ, ap, map, sym}
+use Rattle.gm_http.proofs.Common.{◌∙◌, ◌+◌, ◌++◌, [], ◌∷◌, List, ℕ, ap, map, sym, str_eq_ignore_ascii_case, map-append}
 use Rattle.std.specs.Borrow.{Bor}
-use Rattle.std.specs.Str.{str_eq_ignore_ascii_case}
-use Rattle.std.proofs.lemmas.List.{map-append}
 use Rattle.gm_http.proofs.Named.{from, named, passed}
 use Rattle.gm_http.proofs.fields.values_of.Goals as goal
 use Rattle.gm_http.proofs.fields.values_of.Goals.{then-is_named+in_ok-push, else-is_named}

@@ -1,6 +1,4 @@
-use Rattle.std.proofs.Common.{◌≡◌, ◌++◌, map, drop}
-use Rattle.httparse.specs.Spans.{header_bytes}
-use Rattle.gm_http.specs.Fields.{values_of}
+use Rattle.gm_http.proofs.Common.{◌≡◌, ◌++◌, map, drop, header_bytes, values_of}
 use Rattle.gm_http.proofs.fields.values_of.Given as goal
 
 -- the values so far, and those of the rest, are those of all

@@ -1,4 +1,4 @@
-use Rattle.std.proofs.Common.{rules, ◌≤◌, length}
+use Rattle.gm_http.proofs.Common.{rules, ◌≤◌, length}
 use Rattle.gm_http.proofs.Beginnings.{full}
 use Rattle.gm_http.proofs.head.read_head.Goals as goal
 

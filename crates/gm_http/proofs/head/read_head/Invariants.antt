@@ -1,6 +1,4 @@
-use Rattle.std.proofs.Common.{◌≤◌, ◌-◌, [], vec_len}
-use Rattle.httparse.specs.Grammar.{HasNoRequest}
-use Rattle.gm_http.specs.Input.{Takes}
+use Rattle.gm_http.proofs.Common.{◌≤◌, ◌-◌, [], vec_len, HasNoRequest, Takes}
 use Rattle.gm_http.proofs.head.read_head.Given as goal
 
 abbrev pub invariant-loop-bytes : goal.invariant-loop-bytes

@@ -1,5 +1,4 @@
-use Rattle.std.proofs.Common.{◌≤◌, ◌-◌, max, vec_len}
-use Rattle.gm_http.specs.Input.{Takes}
+use Rattle.gm_http.proofs.Common.{◌≤◌, ◌-◌, max, vec_len, Takes}
 use Rattle.gm_http.proofs.input.fill.Given as goal
 
 abbrev pub invariant-loop-bytes : goal.invariant-loop-bytes

@@ -1,4 +1,4 @@
-use Rattle.std.specs.Io.KnownBytes.{Keeps}
+use Rattle.gm_http.proofs.Common.{Keeps}
 use Rattle.gm_http.proofs.input.read_some.Given as goal
 
 abbrev pub invariant-loop : goal.invariant-loop

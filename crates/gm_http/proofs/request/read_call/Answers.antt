@@ -1,9 +1,4 @@
-use Rattle.std.proofs.Common.{rules, ◌≡◌, ◌≤◌, ◌+◌, ap, Some, None, length, map}
-use Rattle.std.specs.Prelude.{slice_range}
-use Rattle.httparse.specs.Spans.{header_bytes}
-use Rattle.gm_http.specs.Bodies.{call_of, texts_in}
-use Rattle.gm_http.specs.Fields.{length_by}
-use Rattle.gm_http.specs.Requests.{called}
+use Rattle.gm_http.proofs.Common.{rules, ◌≡◌, ◌≤◌, ◌+◌, ap, Some, None, length, map, slice_range, header_bytes, call_of, texts_in, length_by, called}
 use Rattle.gm_http.proofs.Asking.{whole_body}
 use Rattle.gm_http.proofs.request.read_call.Goals as goal
 

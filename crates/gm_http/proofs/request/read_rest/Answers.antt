@@ -1,5 +1,5 @@
-use Rattle.std.proofs.Common.{rules, refl, Some, None, true, false}
-use Rattle.gm_http.specs.declared.routes.Target.TheVariants.{Commands, Metadata, Mirror, Status}
+use Rattle.gm_http.proofs.Common.{rules, refl, Some, None, true, false, Commands, Metadata, Mirror}
+use Rattle.gm_http.specs.declared.routes.Target.TheVariants.{Status}
 use Rattle.gm_http.proofs.Asking.{IsByItsMethod, IsTargetAt, asked_duly, asked_nowhere, asked_otherwise, asked_to_do, for_each}
 use Rattle.gm_http.proofs.request.read_rest.Goals as goal
 

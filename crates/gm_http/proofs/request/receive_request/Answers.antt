@@ -1,7 +1,4 @@
-use Rattle.std.proofs.Common.{rules, map, take}
-use Rattle.httparse.specs.Spans.{header_bytes}
-use Rattle.gm_http.specs.Input.{IsHead}
-use Rattle.gm_http.specs.Senders.{SendsFields}
+use Rattle.gm_http.proofs.Common.{rules, map, take, header_bytes, IsHead, SendsFields}
 use Rattle.gm_http.proofs.Senders.{sends_head}
 use Rattle.gm_http.proofs.request.receive_request.Goals as goal
 

@@ -1,4 +1,4 @@
-use Rattle.std.proofs.Common.{rules, ◌≡◌, List, ℕ, IfOk, string_bytes, subst}
+use Rattle.gm_http.proofs.Common.{rules, ◌≡◌, List, ℕ, IfOk, string_bytes, subst}
 use Rattle.gm_http.proofs.Heads.{pieces_are_response}
 use Rattle.gm_http.proofs.responses.response.Goals as goal
 

@@ -1,4 +1,4 @@
-use Rattle.std.specs.Net.Grammar.{IsSocketText}
+use Rattle.gm_http.proofs.Common.{IsSocketText}
 use Rattle.gm_http.proofs.Senders.{is_read}
 use Rattle.gm_http.proofs.sender.has_port.Goals as goal
 

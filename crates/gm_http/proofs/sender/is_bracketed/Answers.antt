@@ -1,5 +1,4 @@
-use Rattle.std.proofs.Common.{rules, ◌≡◌, [], ◌∷◌, ◌++◌}
-use Rattle.std.specs.Net.Grammar.{IsIpv6Text}
+use Rattle.gm_http.proofs.Common.{rules, ◌≡◌, [], ◌∷◌, ◌++◌, IsIpv6Text}
 use Rattle.gm_http.proofs.Senders.{bracketed, is_read}
 use Rattle.gm_http.proofs.sender.is_bracketed.Goals as goal
 

@@ -1,4 +1,4 @@
-use Rattle.std.specs.Net.Grammar.{IsIpv4Text}
+use Rattle.gm_http.proofs.Common.{IsIpv4Text}
 use Rattle.gm_http.proofs.Senders.{is_read}
 use Rattle.gm_http.proofs.sender.is_ipv4.Goals as goal
 

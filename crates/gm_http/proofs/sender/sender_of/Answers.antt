@@ -1,8 +1,4 @@
-use Rattle.std.proofs.Common.{◌≤◌, All, arith, length, subst, take_all}
-use Rattle.std.proofs.lemmas.List.Elements.{All-more}
-use Rattle.httparse.specs.Spans.{header_bytes}
-use Rattle.httparse.specs.declared.spans.HeaderSpan.{HeaderSpan}
-use Rattle.gm_http.specs.Senders.{TellsPage}
+use Rattle.gm_http.proofs.Common.{◌≤◌, All, arith, length, subst, take_all, All-more, header_bytes, HeaderSpan, TellsPage}
 use Rattle.gm_http.proofs.Senders.{none_tell, tells_not}
 use Rattle.gm_http.proofs.sender.sender_of.Goals as goal
 

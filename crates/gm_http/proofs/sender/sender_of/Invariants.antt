@@ -1,6 +1,4 @@
-use Rattle.std.proofs.Common.{All, take}
-use Rattle.httparse.specs.Spans.{header_bytes}
-use Rattle.gm_http.specs.Senders.{TellsPage}
+use Rattle.gm_http.proofs.Common.{All, take, header_bytes, TellsPage}
 use Rattle.gm_http.proofs.sender.sender_of.Given as goal
 
 -- none of the fields so far tells of a page

@@ -1,6 +1,4 @@
-use Rattle.std.proofs.Common.{◌≡◌, map, take}
-use Rattle.serde_json.specs.View.{view}
-use Rattle.gm_json.specs.Audits.{difference_data}
+use Rattle.gm_json.proofs.Common.{◌≡◌, map, take, view, difference_data}
 use Rattle.gm_json.proofs.audits.difference_values.Given as goal
 
 abbrev pub invariant-loop-difference : goal.invariant-loop-difference

@@ -1,6 +1,4 @@
-use Rattle.std.proofs.Common.{◌∙◌, ap, map}
-use Rattle.serde_json.specs.Data.{string}
-use Rattle.serde_json.specs.View.{view}
+use Rattle.gm_json.proofs.Common.{◌∙◌, ap, map, string, view}
 use Rattle.gm_json.proofs.Grown.{one_more}
 use Rattle.gm_json.proofs.audits.name_values.Goals as goal
 

@@ -1,6 +1,4 @@
-use Rattle.std.proofs.Common.{◌≡◌, map, take}
-use Rattle.serde_json.specs.Data.{string}
-use Rattle.serde_json.specs.View.{view}
+use Rattle.gm_json.proofs.Common.{◌≡◌, map, take, string, view}
 use Rattle.gm_json.proofs.audits.name_values.Given as goal
 
 abbrev pub invariant-loop-name : goal.invariant-loop-name

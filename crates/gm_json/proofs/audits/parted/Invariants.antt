@@ -1,5 +1,4 @@
-use Rattle.std.proofs.Common.{◌≡◌, flat_map, take}
-use Rattle.gm_json.specs.Audits.{difference_of, uncompared_of}
+use Rattle.gm_json.proofs.Common.{◌≡◌, flat_map, take, difference_of, uncompared_of}
 use Rattle.gm_json.proofs.audits.parted.Given as goal
 
 abbrev pub invariant-loop-found : goal.invariant-loop-found

@@ -1,6 +1,4 @@
-use Rattle.std.proofs.Common.{◌∙◌, ap, map}
-use Rattle.serde_json.specs.View.{view}
-use Rattle.gm_json.specs.Checks.{unlike_data}
+use Rattle.gm_json.proofs.Common.{◌∙◌, ap, map, view, unlike_data}
 use Rattle.gm_json.proofs.Grown.{one_more}
 use Rattle.gm_json.proofs.checks.unlike_values.Goals as goal
 

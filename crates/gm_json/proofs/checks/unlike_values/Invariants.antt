@@ -1,6 +1,4 @@
-use Rattle.std.proofs.Common.{◌≡◌, map, take}
-use Rattle.serde_json.specs.View.{view}
-use Rattle.gm_json.specs.Checks.{unlike_data}
+use Rattle.gm_json.proofs.Common.{◌≡◌, map, take, view, unlike_data}
 use Rattle.gm_json.proofs.checks.unlike_values.Given as goal
 
 abbrev pub invariant-loop-unlike : goal.invariant-loop-unlike

@@ -1,7 +1,5 @@
-use Rattle.std.proofs.Common.{◌≡◌, IfOk, subst}
+use Rattle.gm_json.proofs.Common.{◌≡◌, IfOk, subst, Data, text_of}
 use Rattle.std.specs.String.{string_bytes}
-use Rattle.serde_json.specs.Data.{Data}
-use Rattle.gm_json.specs.Fields.{text_of}
 use Rattle.gm_json.proofs.keyed.keyed_repeated_json.Goals as goal
 
 pub returns : goal.returns

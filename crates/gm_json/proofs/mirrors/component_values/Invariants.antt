@@ -1,6 +1,4 @@
-use Rattle.std.proofs.Common.{◌≡◌, map, take}
-use Rattle.serde_json.specs.View.{view}
-use Rattle.gm_json.specs.Mirrors.{component_data}
+use Rattle.gm_json.proofs.Common.{◌≡◌, map, take, view, component_data}
 use Rattle.gm_json.proofs.mirrors.component_values.Given as goal
 
 abbrev pub invariant-loop-component : goal.invariant-loop-component

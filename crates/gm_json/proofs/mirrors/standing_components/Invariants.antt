@@ -1,6 +1,4 @@
-use Rattle.std.proofs.Common.{◌≡◌, map, take}
-use Rattle.serde_json.specs.View.{view}
-use Rattle.gm_json.specs.Mirrors.{standing_component}
+use Rattle.gm_json.proofs.Common.{◌≡◌, map, take, view, standing_component}
 use Rattle.gm_json.proofs.mirrors.standing_components.Given as goal
 
 abbrev pub invariant-loop-component : goal.invariant-loop-component

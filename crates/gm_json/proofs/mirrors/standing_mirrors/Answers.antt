@@ -1,9 +1,4 @@
-use Rattle.std.proofs.Common.{◌≡◌, ◌∙◌, ◌<◌, List, get_or, length, ap, map, subst}
-use Rattle.serde_json.specs.Data.{Data}
-use Rattle.serde_json.specs.View.{view}
-use Rattle.gm_state.specs.declared.records.Mirror.{Mirror}
-use Rattle.gm_state.specs.Records.{members}
-use Rattle.gm_json.specs.Mirrors.{standing_mirror}
+use Rattle.gm_json.proofs.Common.{◌≡◌, ◌∙◌, ◌<◌, List, get_or, length, ap, map, subst, Data, view, Mirror, members, standing_mirror}
 use Rattle.gm_json.proofs.Grown.{one_more}
 use Rattle.gm_json.proofs.mirrors.standing_mirrors.Goals as goal
 

@@ -1,5 +1,4 @@
-use Rattle.std.proofs.Common.{◌∙◌, ap}
-use Rattle.gm_state.specs.States.{component_state_name}
+use Rattle.gm_json.proofs.Common.{◌∙◌, ap, component_state_name}
 use Rattle.gm_json.proofs.mirrors.state_of.Goals as goal
 
 pub returns : goal.returns

@@ -1,6 +1,4 @@
-use Rattle.std.proofs.Common.{◌∙◌, ap, map}
-use Rattle.serde_json.specs.View.{view}
-use Rattle.gm_json.specs.Shown.{held_component}
+use Rattle.gm_json.proofs.Common.{◌∙◌, ap, map, view, held_component}
 use Rattle.gm_json.proofs.Grown.{one_more}
 use Rattle.gm_json.proofs.shown.held_components.Goals as goal
 

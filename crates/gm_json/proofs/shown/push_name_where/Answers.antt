@@ -1,8 +1,4 @@
-use Rattle.std.proofs.Common.{◌∙◌, ◌++◌, [], ◌∷◌, Bool, ap, append-nil, map, sym}
-use Rattle.std.proofs.lemmas.List.{map-append}
-use Rattle.serde_json.specs.Data.{Data}
-use Rattle.serde_json.specs.View.{view}
-use Rattle.gm_json.specs.Shown.{name_where}
+use Rattle.gm_json.proofs.Common.{◌∙◌, ◌++◌, [], ◌∷◌, Bool, ap, append-nil, map, sym, map-append, Data, view, name_where}
 use Rattle.gm_json.proofs.shown.push_name_where.Goals as goal
 
 pub returns-in_ok-push : goal.returns-in_ok-push

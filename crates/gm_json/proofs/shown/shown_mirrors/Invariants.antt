@@ -1,7 +1,4 @@
-use Rattle.std.proofs.Common.{◌≡◌, map, take}
-use Rattle.serde_json.specs.View.{view}
-use Rattle.gm_state.specs.Records.{members}
-use Rattle.gm_json.specs.Shown.{shown_mirror}
+use Rattle.gm_json.proofs.Common.{◌≡◌, map, take, view, members, shown_mirror}
 use Rattle.gm_json.proofs.shown.shown_mirrors.Given as goal
 
 abbrev pub invariant-loop-mirror : goal.invariant-loop-mirror

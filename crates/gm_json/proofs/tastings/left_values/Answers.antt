@@ -1,6 +1,4 @@
-use Rattle.std.proofs.Common.{◌∙◌, ap, map}
-use Rattle.serde_json.specs.View.{view}
-use Rattle.gm_json.specs.Tastings.{left_data}
+use Rattle.gm_json.proofs.Common.{◌∙◌, ap, map, view, left_data}
 use Rattle.gm_json.proofs.Grown.{one_more}
 use Rattle.gm_json.proofs.tastings.left_values.Goals as goal
 

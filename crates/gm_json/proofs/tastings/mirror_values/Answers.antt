@@ -1,6 +1,4 @@
-use Rattle.std.proofs.Common.{◌∙◌, ap, map}
-use Rattle.serde_json.specs.View.{view}
-use Rattle.gm_json.specs.Tastings.{tasted_mirror}
+use Rattle.gm_json.proofs.Common.{◌∙◌, ap, map, view, tasted_mirror}
 use Rattle.gm_json.proofs.Grown.{one_more}
 use Rattle.gm_json.proofs.tastings.mirror_values.Goals as goal
 

@@ -1,6 +1,4 @@
-use Rattle.std.proofs.Common.{◌≡◌, map, take}
-use Rattle.serde_json.specs.View.{view}
-use Rattle.gm_json.specs.Tastings.{tasted_mirror}
+use Rattle.gm_json.proofs.Common.{◌≡◌, map, take, view, tasted_mirror}
 use Rattle.gm_json.proofs.tastings.mirror_values.Given as goal
 
 abbrev pub invariant-loop-group : goal.invariant-loop-group

@@ -1,6 +1,4 @@
-use Rattle.std.proofs.Common.{◌≡◌, map, take}
-use Rattle.serde_json.specs.View.{view}
-use Rattle.gm_json.specs.Tastings.{passed_data}
+use Rattle.gm_json.proofs.Common.{◌≡◌, map, take, view, passed_data}
 use Rattle.gm_json.proofs.tastings.passed_values.Given as goal
 
 abbrev pub invariant-loop-x : goal.invariant-loop-x

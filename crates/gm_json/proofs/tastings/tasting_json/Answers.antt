@@ -1,5 +1,4 @@
-use Rattle.std.proofs.Common.{◌∙◌, ap}
-use Rattle.serde_json.specs.Written.{has_float}
+use Rattle.gm_json.proofs.Common.{◌∙◌, ap, has_float}
 use Rattle.gm_json.proofs.NoFloats.{tasting_none}
 use Rattle.gm_json.proofs.tastings.tasting_json.Goals as goal
 

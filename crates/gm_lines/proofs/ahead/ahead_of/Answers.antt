@@ -1,5 +1,4 @@
-use Rattle.std.proofs.Common.{◌∙◌, ap, sym}
-use Rattle.gm_lines.specs.Asked.{asked, asked_of}
+use Rattle.gm_lines.proofs.Common.{◌∙◌, ap, sym, asked, asked_of}
 use Rattle.gm_lines.proofs.ahead.ahead_of.Goals as goal
 
 pub returns-in-Ok : goal.returns-in-Ok

@@ -1,6 +1,4 @@
-use Rattle.std.proofs.Common.{arith, ◌<◌, length, sym, subst}
-use Rattle.std.proofs.lemmas.Option.{IfSome_then}
-use Rattle.gm_lines.specs.Input.{BeginsWith}
+use Rattle.gm_lines.proofs.Common.{arith, ◌<◌, length, sym, subst, IfSome_then, BeginsWith}
 use Rattle.gm_lines.proofs.TakenLines.{begins_with}
 use Rattle.gm_lines.proofs.ahead.read_ahead.Goals as goal
 

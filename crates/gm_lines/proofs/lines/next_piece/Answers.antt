@@ -1,9 +1,5 @@
-use Rattle.std.proofs.Common.{refl, [], append-nil, drop, le_of_eq, length-drop, subst, take, take_all}
+use Rattle.gm_lines.proofs.Common.{refl, [], append-nil, drop, le_of_eq, length-drop, subst, take, take_all, Consumes-nil, Consumes-kept, IfSome_then, FillKeeps, IsAheadIn}
 use Rattle.std.proofs.BufReadLemmas.{Consumes_shown}
-use Rattle.std.proofs.KnownBytes.{Consumes-nil, Consumes-kept}
-use Rattle.std.proofs.lemmas.Option.{IfSome_then}
-use Rattle.std.specs.Io.BufRead.{FillKeeps}
-use Rattle.gm_lines.specs.Asked.{IsAheadIn}
 use Rattle.gm_lines.proofs.TakenLines.{nothing_ready, ended_where, shown_next}
 use Rattle.gm_lines.proofs.lines.next_piece.Goals as goal
 

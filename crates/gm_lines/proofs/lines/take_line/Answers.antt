@@ -1,4 +1,4 @@
-use Rattle.std.proofs.lemmas.Option.{IfSome_then}
+use Rattle.gm_lines.proofs.Common.{IfSome_then}
 use Rattle.gm_lines.proofs.TakenLines.{next_known, piece_fed, piece_ended, piece_more}
 use Rattle.gm_lines.proofs.lines.take_line.Goals as goal
 

@@ -1,4 +1,4 @@
-use Rattle.gm_lines.specs.Input.{Begins}
+use Rattle.gm_lines.proofs.Common.{Begins}
 use Rattle.gm_lines.proofs.lines.take_line.Given as goal
 
 abbrev pub invariant-loop : goal.invariant-loop

@@ -1,4 +1,4 @@
-use Rattle.std.proofs.Common.{rules, tests, lit<, ◌∙◌, ◌==◌, ap, not, ℕ, List, length}
+use Rattle.gm_lines.proofs.Common.{rules, tests, lit<, ◌∙◌, ◌==◌, ap, not, ℕ, List, length}
 use Rattle.std.specs.Str.Iter.{split_text, split_has_more, split_pattern}
 use Rattle.std.proofs.lemmas.Iterator.Consumers.{YieldsList-from_filter, map_from_collect}
 use Rattle.std.proofs.lemmas.Iterator.Splits.{YieldsList-from_str_split}

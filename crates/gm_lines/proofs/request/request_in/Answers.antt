@@ -1,7 +1,5 @@
-use Rattle.std.proofs.Common.{◌∙◌, sym, ap}
+use Rattle.gm_lines.proofs.Common.{◌∙◌, sym, ap, asked_by, pieces, texts}
 use Rattle.std.proofs.lemmas.Result.{IfOk-weaker}
-use Rattle.gm_lines.specs.Asked.{asked_by, pieces}
-use Rattle.gm_words.specs.Lines.{texts}
 use Rattle.gm_lines.proofs.Requests.{asked_text, asked_bytes}
 use Rattle.gm_lines.proofs.request.request_in.Goals as goal
 

@@ -1,7 +1,4 @@
-use Rattle.std.proofs.Common.{◌∙◌, ap, sym}
-use Rattle.std.proofs.lemmas.List.{nil_from_length}
-use Rattle.gm_lines.specs.Asked.{asked_by, pieces}
-use Rattle.gm_words.specs.Lines.{texts}
+use Rattle.gm_lines.proofs.Common.{◌∙◌, ap, sym, nil_from_length, asked_by, pieces, texts}
 use Rattle.gm_lines.proofs.Requests.{asked_bytes, asked_text, under_first}
 use Rattle.gm_lines.proofs.request.under_key.Goals as goal
 

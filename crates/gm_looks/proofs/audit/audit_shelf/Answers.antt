@@ -1,8 +1,4 @@
-use Rattle.std.proofs.Common.{rules, ◌≡◌, ◌∙◌, List, ℕ, map, refl, sym, ap, subst}
-use Rattle.gm_looks.specs.Audits.{IsAudit}
-use Rattle.gm_looks.specs.Unlikes.{is_meant}
-use Rattle.gm_looks.specs.declared.unlike.Meant.TheVariants.{All}
-use Rattle.gm_looks.specs.declared.unlike.Unlike.{Unlike}
+use Rattle.gm_looks.proofs.Common.{rules, ◌≡◌, ◌∙◌, List, ℕ, map, refl, sym, ap, subst, IsAudit, is_meant, All, Unlike}
 use Rattle.gm_looks.proofs.UnlikeSoFar.{audited, on}
 use Rattle.gm_looks.proofs.audit.audit_shelf.Goals as goal
 

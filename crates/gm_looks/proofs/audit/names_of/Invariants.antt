@@ -1,4 +1,4 @@
-use Rattle.std.proofs.Common.{◌≡◌, map, take}
+use Rattle.gm_looks.proofs.Common.{◌≡◌, map, take}
 use Rattle.gm_looks.proofs.UnlikeSoFar.{on}
 use Rattle.gm_looks.proofs.audit.names_of.Given as goal
 

@@ -1,7 +1,4 @@
-use Rattle.std.proofs.Common.{◌≡◌, ◌∙◌, Option, Some, IfNone, IfSome, true, false, sym, subst}
-use Rattle.gm_state.specs.declared.records.Mirror.{Mirror}
-use Rattle.gm_state.proofs.TestsTellRules.{member}
-use Rattle.gm_looks.specs.Scrubs.{IsActiveOf, IsAskedFor}
+use Rattle.gm_looks.proofs.Common.{◌≡◌, ◌∙◌, Option, Some, IfNone, IfSome, true, false, sym, subst, Mirror, member, IsActiveOf, IsAskedFor}
 use Rattle.gm_looks.proofs.Listed.{home_found, home_of}
 use Rattle.gm_looks.proofs.scrub.asked_mirror.Goals as goal
 use Rattle.gm_looks.proofs.scrub.asked_mirror.Goals.{else-is_active-via-then-is_active+else-is_asked_for, else-is_active-via-else-is_active}

@@ -1,7 +1,4 @@
-use Rattle.std.proofs.Common.{◌≡◌, ◌∙◌, ◌<◌, ℕ, List, sym, ap, subst}
-use Rattle.gm_lists.proofs.Order.{same_is}
-use Rattle.gm_apply.specs.DifferingData.{IsDifference}
-use Rattle.gm_apply.proofs.DifferingSectors.{count_some}
+use Rattle.gm_looks.proofs.Common.{◌≡◌, ◌∙◌, ◌<◌, ℕ, List, sym, ap, subst, same_is, IsDifference, count_some}
 use Rattle.gm_looks.proofs.scrub.flaw_of.Goals as goal
 
 pub returns-then-eq-clause-told : goal.returns-then-eq-clause-told

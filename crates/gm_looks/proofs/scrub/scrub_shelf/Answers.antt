@@ -1,9 +1,4 @@
-use Rattle.std.proofs.Common.{◌≡◌, ◌∙◌, ◌+◌, ◌<◌, ◌≤◌, List, Option, None, Some, refl, get_or, length, take, sym, ap, subst}
-use Rattle.gm_state.specs.declared.records.Component.{Component}
-use Rattle.gm_state.specs.declared.records.Mirror.{Mirror}
-use Rattle.gm_shelf.proofs.Keeping.{only_then}
-use Rattle.gm_looks.specs.Scrubs.{MayHaveFlaw}
-use Rattle.gm_looks.specs.declared.scrub.Flaw.{Flaw}
+use Rattle.gm_looks.proofs.Common.{◌≡◌, ◌∙◌, ◌+◌, ◌<◌, ◌≤◌, List, Option, None, Some, refl, get_or, length, take, sym, ap, subst, Component, Mirror, only_then, MayHaveFlaw, Flaw}
 use Rattle.gm_looks.proofs.Listed.{has_item, listed, one_home, passed}
 use Rattle.gm_looks.proofs.ScrubbedSoFar.{Right, ScrubbedSoFar, Told, all_scrubbed, flaws_before}
 use Rattle.gm_looks.proofs.scrub.scrub_shelf.Goals as goal

@@ -1,5 +1,4 @@
-use Rattle.std.proofs.Common.{take}
-use Rattle.gm_shelf.specs.Keeping.{ReadsOnly}
+use Rattle.gm_looks.proofs.Common.{take, ReadsOnly}
 use Rattle.gm_looks.proofs.ScrubbedSoFar.{ScrubbedSoFar}
 use Rattle.gm_looks.proofs.scrub.scrub_shelf.Given as goal
 

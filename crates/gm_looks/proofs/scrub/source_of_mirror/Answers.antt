@@ -1,7 +1,4 @@
-use Rattle.std.proofs.Common.{◌≡◌, ◌∙◌, true, false, sym, subst}
-use Rattle.gm_state.specs.declared.records.Component.{Component}
-use Rattle.gm_state.specs.Sources.{goes_first}
-use Rattle.gm_looks.specs.Scrubs.{IsSourceOfMirror}
+use Rattle.gm_looks.proofs.Common.{◌≡◌, ◌∙◌, true, false, sym, subst, Component, goes_first, IsSourceOfMirror}
 use Rattle.gm_looks.proofs.Listed.{some_other}
 use Rattle.gm_looks.proofs.MirrorSource.{best_lender, itself_source, kept_source, lender_source}
 use Rattle.gm_looks.proofs.scrub.source_of_mirror.Goals as goal

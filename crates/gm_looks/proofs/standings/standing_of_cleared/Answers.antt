@@ -1,6 +1,4 @@
-use Rattle.std.proofs.Common.{◌≡◌, ◌∙◌, inl, inr, List, Some, true, false, refl, sym, ap, subst}
-use Rattle.gm_state.specs.declared.records.Mirror.{Mirror}
-use Rattle.gm_looks.specs.Standings.{said_of_mirrors}
+use Rattle.gm_looks.proofs.Common.{◌≡◌, ◌∙◌, inl, inr, List, Some, true, false, refl, sym, ap, subst, Mirror, said_of_mirrors}
 use Rattle.gm_looks.proofs.standings.standing_of_cleared.Goals as goal
 
 pub returns-then-same-clause-stands : goal.returns-then-same-clause-stands

@@ -1,4 +1,4 @@
-use Rattle.std.proofs.Common.{◌∙◌, sym}
+use Rattle.gm_looks.proofs.Common.{◌∙◌, sym}
 use Rattle.gm_looks.proofs.StandingsFound.{named_component, named_stranger}
 use Rattle.gm_looks.proofs.standings.standing_of_named.Goals as goal
 

@@ -1,13 +1,4 @@
-use Rattle.std.proofs.Common.{◌≡◌, ◌∙◌, ◌+◌, ◌++◌, ◌∷◌, [], List, ℕ, take, Some, None, refl, sym, ap, subst}
-use Rattle.std.specs.Option.{unwrap_or}
-use Rattle.gm_metadata.specs.Images.{Sizes, zeros}
-use Rattle.gm_shelf.specs.Disk.{AreNames}
-use Rattle.gm_shelf.specs.Keeping.{ReadsOnly}
-use Rattle.gm_shelf.specs.LastSector.{last_of}
-use Rattle.gm_shelf.proofs.Keeping.{only_then}
-use Rattle.gm_shelf.proofs.LastRead.{last_read}
-use Rattle.gm_looks.specs.Shown.{IsShown}
-use Rattle.gm_taste.specs.declared.provider.Provider.{Provider}
+use Rattle.gm_looks.proofs.Common.{◌≡◌, ◌∙◌, ◌+◌, ◌++◌, ◌∷◌, [], List, ℕ, take, Some, None, refl, sym, ap, subst, unwrap_or, Sizes, zeros, AreNames, ReadsOnly, last_of, only_then, last_read, IsShown, Provider}
 use Rattle.gm_looks.proofs.ShownSoFar.{ShownSoFar, all_shown, not_absent, seen_last, shown_more}
 use Rattle.gm_looks.proofs.tasting.providers_on.Goals as goal
 use Rattle.gm_looks.proofs.tasting.providers_on.Goals.{in-Some+in_ok-read_last+in_ok-push, in_default}

@@ -1,6 +1,4 @@
-use Rattle.std.proofs.Common.{◌≡◌, flat_map, take}
-use Rattle.std.specs.String.{string_bytes}
-use Rattle.gm_looks.specs.Texts.{intent_line}
+use Rattle.gm_looks.proofs.Common.{◌≡◌, flat_map, take, string_bytes, intent_line}
 use Rattle.gm_looks.proofs.text.pending_text.Given as goal
 
 abbrev pub invariant-loop-intent : goal.invariant-loop-intent

@@ -1,6 +1,4 @@
-use Rattle.std.specs.Prelude.{codes}
-use Rattle.std.specs.Fmt.{decimal}
-use Rattle.std.specs.String.{string_bytes}
+use Rattle.gm_looks.proofs.Common.{codes, decimal, string_bytes}
 use Rattle.gm_looks.proofs.CopyText.{added_as, eight_pieces}
 use Rattle.gm_looks.proofs.text.push_copy.Goals as goal
 

@@ -1,8 +1,4 @@
-use Rattle.std.proofs.Common.{◌≡◌, ◌+◌, ◌++◌, List, ℕ, [], ◌∷◌, take, sym, subst}
-use Rattle.std.specs.String.{string_bytes}
-use Rattle.gm_shelf.proofs.Keeping.{only_then}
-use Rattle.gm_state.specs.declared.intents.Intent.{Intent}
-use Rattle.gm_looks.specs.Texts.{AreTold, IsTold, told_line}
+use Rattle.gm_looks.proofs.Common.{◌≡◌, ◌+◌, ◌++◌, List, ℕ, [], ◌∷◌, take, sym, subst, string_bytes, only_then, Intent, AreTold, IsTold, told_line}
 use Rattle.gm_looks.proofs.SeenBefore.{told_before}
 use Rattle.gm_looks.proofs.ToldLines.{one_more, told_more}
 use Rattle.gm_looks.proofs.text_on.pending_text_on.Goals as goal

@@ -1,7 +1,4 @@
-use Rattle.std.proofs.Common.{take}
-use Rattle.std.specs.String.{string_bytes}
-use Rattle.gm_shelf.specs.Keeping.{ReadsOnly}
-use Rattle.gm_looks.specs.Texts.{AreTold}
+use Rattle.gm_looks.proofs.Common.{take, string_bytes, ReadsOnly, AreTold}
 use Rattle.gm_looks.proofs.text_on.pending_text_on.Given as goal
 
 abbrev pub invariant-loop-intent : goal.invariant-loop-intent

@@ -1,7 +1,4 @@
-use Rattle.std.proofs.Common.{sym, subst}
-use Rattle.std.specs.String.{string_bytes}
-use Rattle.gm_state.specs.declared.intents.Intent.{Intent}
-use Rattle.gm_looks.specs.Texts.{IsTold}
+use Rattle.gm_looks.proofs.Common.{sym, subst, string_bytes, Intent, IsTold}
 use Rattle.gm_looks.proofs.SeenBefore.{named_before}
 use Rattle.gm_looks.proofs.text_on.told_on.Goals as goal
 

@@ -1,6 +1,4 @@
-use Rattle.std.proofs.Common.{◌≡◌, ◌∙◌, None, Some, sym, subst}
-use Rattle.gm_state.specs.declared.records.Mirror.{Mirror}
-use Rattle.gm_looks.specs.Standings.{IsOfComponent}
+use Rattle.gm_looks.proofs.Common.{◌≡◌, ◌∙◌, None, Some, sym, subst, Mirror, IsOfComponent}
 use Rattle.gm_looks.proofs.Listed.{home_found, some_other}
 use Rattle.gm_looks.proofs.unlike.standing_in.Goals as goal
 

@@ -1,8 +1,4 @@
-use Rattle.std.proofs.Common.{◌≡◌, ◌∙◌, ◌+◌, ◌<◌, ◌≤◌, true, false, List, refl, get_or, length, take, sym, ap, subst}
-use Rattle.gm_state.specs.declared.records.Component.{Component}
-use Rattle.gm_shelf.proofs.Keeping.{only_then}
-use Rattle.gm_looks.specs.Unlikes.{TellsUnlike, is_meant}
-use Rattle.gm_looks.specs.declared.unlike.Unlike.{Unlike}
+use Rattle.gm_looks.proofs.Common.{◌≡◌, ◌∙◌, ◌+◌, ◌<◌, ◌≤◌, true, false, List, refl, get_or, length, take, sym, ap, subst, Component, only_then, TellsUnlike, is_meant, Unlike}
 use Rattle.gm_looks.proofs.Listed.{has_item, home_of, listed, passed, some_sectors}
 use Rattle.gm_looks.proofs.SeenBefore.{component_before}
 use Rattle.gm_looks.proofs.StandingTells.{tells_registered}

@@ -1,6 +1,4 @@
-use Rattle.std.proofs.Common.{take}
-use Rattle.gm_shelf.specs.Keeping.{ReadsOnly}
-use Rattle.gm_looks.specs.Unlikes.{is_meant}
+use Rattle.gm_looks.proofs.Common.{take, ReadsOnly, is_meant}
 use Rattle.gm_looks.proofs.UnlikeSoFar.{Listed}
 use Rattle.gm_looks.proofs.unlike.unlike_shelf.Given as goal
 

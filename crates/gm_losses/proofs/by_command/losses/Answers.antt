@@ -1,6 +1,5 @@
-use Rattle.std.proofs.Common.{inl, inr, sym, subst}
+use Rattle.gm_losses.proofs.Common.{inl, inr, sym, subst, AreLosses}
 use Rattle.gm_commands.specs.declared.command.Command.{Command}
-use Rattle.gm_losses.specs.Losses.{AreLosses}
 use Rattle.gm_losses.proofs.by_command.losses.Goals as goal
 
 pub returns-in_ok-losses_of_destroy-in-Destroy-clause-losses :

@@ -1,6 +1,4 @@
-use Rattle.gm_metadata.specs.Images.{zeros}
-use Rattle.gm_lists.proofs.Order.{same_from, same_is}
-use Rattle.gm_losses.specs.FreeImages.{is_blank}
+use Rattle.gm_losses.proofs.Common.{zeros, same_from, same_is, is_blank}
 use Rattle.gm_losses.proofs.Listed.{told_by}
 use Rattle.gm_losses.proofs.free_image.is_blank.Goals as goal
 

@@ -1,11 +1,5 @@
-use Rattle.std.proofs.Common.{◌∙◌, List, Option, IsSome, not, sym, ap, subst}
-use Rattle.std.specs.Option.{is_some}
+use Rattle.gm_losses.proofs.Common.{◌∙◌, List, Option, IsSome, not, sym, ap, subst, is_some, mirror_of, TellsFree, AreLosses, FreeImage, Loss}
 use Rattle.gm_commands.specs.declared.command.Command.TheVariants as command
-use Rattle.gm_state.specs.Lookups.{mirror_of}
-use Rattle.gm_losses.specs.FreeImages.{TellsFree}
-use Rattle.gm_losses.specs.Losses.{AreLosses}
-use Rattle.gm_losses.specs.declared.free_image.FreeImage.{FreeImage}
-use Rattle.gm_losses.specs.declared.loss.Loss.{Loss}
 use Rattle.gm_losses.proofs.FreeLost.{inserted, lost_same}
 use Rattle.gm_losses.proofs.Listed.{given}
 use Rattle.gm_losses.proofs.insert_losses.losses_of_insert.Goals as goal

@@ -1,7 +1,4 @@
-use Rattle.std.proofs.Common.{◌≡◌, ◌∙◌, None, Some, sym, subst}
-use Rattle.gm_state.specs.declared.records.Mirror.{Mirror}
-use Rattle.gm_looks.specs.Standings.{IsOfComponent}
-use Rattle.gm_looks.proofs.Listed.{home_found, some_other, some_sectors}
+use Rattle.gm_losses.proofs.Common.{◌≡◌, ◌∙◌, None, Some, sym, subst, Mirror, IsOfComponent, home_found, some_other, some_sectors}
 use Rattle.gm_looks.proofs.StandingTells.{tells_registered}
 use Rattle.gm_losses.proofs.intact.is_intact.Goals as goal
 

@@ -1,9 +1,5 @@
-use Rattle.std.proofs.Common.{◌∙◌, true, false, ℕ, List, sym, subst}
-use Rattle.std.proofs.lemmas.Bool.{and_from, and_left, and_right}
+use Rattle.gm_losses.proofs.Common.{◌∙◌, true, false, ℕ, List, sym, subst, and_from, and_left, and_right, only_then, is_on_any, AreLosses}
 use Rattle.gm_commands.specs.declared.command.Command.TheVariants as command
-use Rattle.gm_shelf.proofs.Keeping.{only_then}
-use Rattle.gm_refusals.specs.Applies.{is_on_any}
-use Rattle.gm_losses.specs.Losses.{AreLosses}
 use Rattle.gm_losses.proofs.IntactFound.{all_told, found, is_intact, passed, told}
 use Rattle.gm_losses.proofs.intact.losses_of_lost.Goals as goal
 

@@ -1,6 +1,4 @@
-use Rattle.std.proofs.Common.{◌≡◌, take}
-use Rattle.std.specs.List.{filter_map}
-use Rattle.gm_shelf.specs.Keeping.{ReadsOnly}
+use Rattle.gm_losses.proofs.Common.{◌≡◌, take, filter_map, ReadsOnly}
 use Rattle.gm_losses.proofs.IntactFound.{intact_as}
 use Rattle.gm_losses.proofs.intact.losses_of_lost.Given as goal
 

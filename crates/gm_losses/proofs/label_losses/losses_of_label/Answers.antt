@@ -1,11 +1,5 @@
-use Rattle.std.proofs.Common.{◌≡◌, ◌∙◌, List, Option, None, sym, ap, subst}
-use Rattle.std.specs.Option.{is_some}
+use Rattle.gm_losses.proofs.Common.{◌≡◌, ◌∙◌, List, Option, None, sym, ap, subst, is_some, mirror_of, TellsFree, AreLosses, FreeImage, Loss}
 use Rattle.gm_commands.specs.declared.command.Command.TheVariants as command
-use Rattle.gm_state.specs.Lookups.{mirror_of}
-use Rattle.gm_losses.specs.FreeImages.{TellsFree}
-use Rattle.gm_losses.specs.Losses.{AreLosses}
-use Rattle.gm_losses.specs.declared.free_image.FreeImage.{FreeImage}
-use Rattle.gm_losses.specs.declared.loss.Loss.{Loss}
 use Rattle.gm_losses.proofs.FreeLost.{labelled}
 use Rattle.gm_losses.proofs.Listed.{given, is_gone}
 use Rattle.gm_losses.proofs.label_losses.losses_of_label.Goals as goal

@@ -1,5 +1,4 @@
-use Rattle.std.proofs.Common.{◌≡◌, drop, find}
-use Rattle.gm_losses.specs.LeftAmong.{is_adopted}
+use Rattle.gm_losses.proofs.Common.{◌≡◌, drop, find, is_adopted}
 use Rattle.gm_losses.proofs.left_images.left_among.Given as goal
 
 abbrev pub invariant-loop-group : goal.invariant-loop-group

@@ -1,11 +1,5 @@
-use Rattle.std.proofs.Common.{◌≡◌, ◌∙◌, ℕ, List, None, sym, ap, subst}
-use Rattle.std.specs.Option.{is_some}
+use Rattle.gm_losses.proofs.Common.{◌≡◌, ◌∙◌, ℕ, List, None, sym, ap, subst, is_some, mirror_of, Group, left_among, AreLosses, Loss}
 use Rattle.gm_commands.specs.declared.command.Command.TheVariants as command
-use Rattle.gm_state.specs.Lookups.{mirror_of}
-use Rattle.gm_taste.specs.declared.tasted.Group.{Group}
-use Rattle.gm_losses.specs.LeftAmong.{left_among}
-use Rattle.gm_losses.specs.Losses.{AreLosses}
-use Rattle.gm_losses.specs.declared.loss.Loss.{Loss}
 use Rattle.gm_losses.proofs.LeftFound.{left_lost}
 use Rattle.gm_losses.proofs.Listed.{first_of, given, is_gone}
 use Rattle.gm_losses.proofs.left_images.losses_of_adopt.Goals as goal

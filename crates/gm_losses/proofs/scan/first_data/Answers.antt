@@ -1,7 +1,4 @@
-use Rattle.std.proofs.Common.{◌≡◌, ◌+◌, ◌≤◌, ℕ, Option, Some, None, length, take, rules, subst, arith}
-use Rattle.gm_shelf.proofs.Keeping.{only_then}
-use Rattle.gm_apply.specs.DifferingData.{sectors_from}
-use Rattle.gm_losses.specs.FreeImages.{TellsFirst}
+use Rattle.gm_losses.proofs.Common.{◌≡◌, ◌+◌, ◌≤◌, ℕ, Option, Some, None, length, take, rules, subst, arith, only_then, sectors_from, TellsFirst}
 use Rattle.gm_losses.proofs.FirstData.{blank_then, first_then, tells_same}
 use Rattle.gm_losses.proofs.scan.first_data.Goals as goal
 

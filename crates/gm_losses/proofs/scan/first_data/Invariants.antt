@@ -1,6 +1,4 @@
-use Rattle.std.proofs.Common.{◌≤◌, ◌-◌}
-use Rattle.gm_shelf.specs.Keeping.{ReadsOnly}
-use Rattle.gm_losses.specs.FreeImages.{AreBlank}
+use Rattle.gm_losses.proofs.Common.{◌≤◌, ◌-◌, ReadsOnly, AreBlank}
 use Rattle.gm_losses.proofs.scan.first_data.Given as goal
 
 abbrev pub invariant-loop-place : goal.invariant-loop-place

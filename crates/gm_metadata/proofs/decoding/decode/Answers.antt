@@ -1,4 +1,4 @@
-use Rattle.std.proofs.Common.{◌∙◌}
+use Rattle.gm_metadata.proofs.Common.{◌∙◌}
 use Rattle.gm_metadata.proofs.Read.{found_in, only}
 use Rattle.gm_metadata.proofs.Causes.{cause_in, only_cause}
 use Rattle.gm_metadata.proofs.decoding.decode.Goals as goal

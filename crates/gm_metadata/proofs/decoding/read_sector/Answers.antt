@@ -1,4 +1,4 @@
-use Rattle.std.proofs.Common.{◌∙◌}
+use Rattle.gm_metadata.proofs.Common.{◌∙◌}
 use Rattle.gm_metadata.proofs.Read.{found_by_reading, only_read}
 use Rattle.gm_metadata.proofs.decoding.read_sector.Goals as goal
 

@@ -1,7 +1,5 @@
-use Rattle.std.proofs.Common.{rules, ◌≡◌, true, refl, Ok}
-use Rattle.gm_metadata.specs.Labels.{is_label_field, name_in}
-use Rattle.gm_metadata.specs.Reading.{has_hash, is_provider_field, provider_in, settings_of, said_in}
-use Rattle.gm_metadata.specs.Sector.{bytes_at}
+use Rattle.gm_metadata.proofs.Common.{rules, ◌≡◌, true, refl, Ok, is_label_field, name_in, has_hash, is_provider_field, provider_in, settings_of, bytes_at}
+use Rattle.gm_metadata.specs.Reading.{said_in}
 use Rattle.gm_metadata.proofs.decoding.said_in.Goals as goal
 
 pub returns : goal.returns

@@ -1,5 +1,4 @@
-use Rattle.std.proofs.Common.{◌∙◌, ap, sym}
-use Rattle.gm_metadata.specs.Reading.{version_read}
+use Rattle.gm_metadata.proofs.Common.{◌∙◌, ap, sym, version_read}
 use Rattle.gm_metadata.proofs.Read.{said_in_version, only_read}
 use Rattle.gm_metadata.proofs.decoding.version_of.Goals as goal
 

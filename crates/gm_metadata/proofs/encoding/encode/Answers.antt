@@ -1,9 +1,6 @@
-use Rattle.std.proofs.Common.{rules, arith, refl, sym, subst, ◌≡◌, ◌∙◌, ◌++◌, ◌∷◌, [], ◌-◌, length, replicate, ap, ℕ, List}
-use Rattle.md5.specs.Md5.{md5}
-use Rattle.gm_metadata.specs.Labels.{padded}
-use Rattle.gm_metadata.specs.declared.version.Version.TheVariants.{Four}
-use Rattle.gm_metadata.specs.Sector.{magic, u32_field, u64_field, provider_field, Full}
-use Rattle.gm_metadata.specs.Reading.{fields, spelling, encoded}
+use Rattle.gm_metadata.proofs.Common.{rules, arith, refl, sym, subst, ◌≡◌, ◌∙◌, ◌++◌, ◌∷◌, [], ◌-◌, length, replicate, ap, ℕ, List, md5, padded, Four, u32_field, u64_field, provider_field, Full, fields}
+use Rattle.gm_metadata.specs.Sector.{magic}
+use Rattle.gm_metadata.specs.Reading.{spelling, encoded}
 use Rattle.gm_metadata.proofs.Sector.{next, ended, fields_appended}
 use Rattle.gm_metadata.proofs.Laid.{Named, encoded_is_full}
 use Rattle.gm_metadata.proofs.encoding.encode.Goals as goal

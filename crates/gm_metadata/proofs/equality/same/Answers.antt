@@ -1,5 +1,4 @@
-use Rattle.std.proofs.Common.{rules, arith, ◌≡◌, ◌∙◌, ◌++◌, sym, ap₂, take, drop, List, ℕ}
-use Rattle.std.proofs.Math.Seq.{take-add}
+use Rattle.gm_metadata.proofs.Common.{rules, arith, ◌≡◌, ◌∙◌, ◌++◌, sym, ap₂, take, drop, List, ℕ, take-add}
 use Rattle.gm_metadata.proofs.equality.same.Goals as goal
 
 pub loop-at-preserved : goal.loop-at-preserved

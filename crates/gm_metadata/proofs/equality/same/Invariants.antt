@@ -1,4 +1,4 @@
-use Rattle.std.proofs.Common.{◌≡◌, ◌≤◌, ◌-◌, ◌%◌, take}
+use Rattle.gm_metadata.proofs.Common.{◌≡◌, ◌≤◌, ◌-◌, ◌%◌, take}
 use Rattle.gm_metadata.proofs.equality.same.Given as goal
 
 abbrev pub invariant-loop-at : goal.invariant-loop-at

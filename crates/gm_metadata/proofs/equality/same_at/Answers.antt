@@ -1,7 +1,4 @@
-use Rattle.std.proofs.Common.{arith, ◌≡◌, ◌==◌, not, ℕ, length, take, drop}
-use Rattle.std.proofs.lemmas.Simd.{tops_compared}
-use Rattle.std.proofs.lemmas.List.{length-take-le, length-drop}
-use Rattle.std.specs.Int.{w8}
+use Rattle.gm_metadata.proofs.Common.{arith, ◌≡◌, ◌==◌, not, ℕ, length, take, drop, tops_compared, length-take-le, length-drop, w8}
 use Rattle.gm_metadata.proofs.EqualLanes.{same_lanes}
 use Rattle.gm_metadata.proofs.equality.same_at.Goals as goal
 

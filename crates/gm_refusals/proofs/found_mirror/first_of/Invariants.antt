@@ -1,8 +1,4 @@
-use Rattle.std.proofs.Common.{◌≡◌, drop, map, None}
-use Rattle.gm_taste.specs.Tasting.{member}
-use Rattle.gm_taste.specs.Sources.{first_from}
-use Rattle.gm_refusals.specs.Seen.{seen_in}
-use Rattle.gm_refusals.specs.Adoptable.{all_taken}
+use Rattle.gm_refusals.proofs.Common.{◌≡◌, drop, map, None, member, first_from, seen_in, all_taken}
 use Rattle.gm_refusals.proofs.found_mirror.first_of.Given as goal
 
 abbrev pub invariant-loop-provider : goal.invariant-loop-provider

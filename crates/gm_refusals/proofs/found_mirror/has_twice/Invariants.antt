@@ -1,5 +1,4 @@
-use Rattle.std.proofs.Common.{◌≡◌, drop}
-use Rattle.gm_refusals.specs.Adoptable.{has_twice}
+use Rattle.gm_refusals.proofs.Common.{◌≡◌, drop, has_twice}
 use Rattle.gm_refusals.proofs.found_mirror.has_twice.Given as goal
 
 abbrev pub invariant-loop-i : goal.invariant-loop-i

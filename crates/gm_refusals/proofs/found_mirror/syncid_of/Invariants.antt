@@ -1,7 +1,4 @@
-use Rattle.std.proofs.Common.{◌≡◌, drop, ◌==◌}
-use Rattle.gm_taste.specs.Tasting.{raised}
-use Rattle.gm_refusals.specs.Seen.{seen_in}
-use Rattle.gm_refusals.specs.Adoptable.{all_taken, syncid_of}
+use Rattle.gm_refusals.proofs.Common.{◌≡◌, drop, ◌==◌, raised, seen_in, all_taken, syncid_of}
 use Rattle.gm_refusals.proofs.found_mirror.syncid_of.Given as goal
 
 abbrev pub invariant-loop-provider : goal.invariant-loop-provider

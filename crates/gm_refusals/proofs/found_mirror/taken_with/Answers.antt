@@ -1,6 +1,4 @@
-use Rattle.std.proofs.Common.{◌≡◌, true}
-use Rattle.gm_commands.specs.Sectors.{is_bytes}
-use Rattle.gm_commands.proofs.JoinedSectors.{are_bytes}
+use Rattle.gm_refusals.proofs.Common.{◌≡◌, true, is_bytes, are_bytes}
 use Rattle.gm_refusals.proofs.found_mirror.taken_with.Goals as goal
 
 pub returns : goal.returns

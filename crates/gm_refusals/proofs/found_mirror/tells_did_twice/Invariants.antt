@@ -1,6 +1,4 @@
-use Rattle.std.proofs.Common.{◌≡◌, drop}
-use Rattle.gm_refusals.specs.Seen.{seen_in}
-use Rattle.gm_refusals.specs.Adoptable.{tells_did_twice}
+use Rattle.gm_refusals.proofs.Common.{◌≡◌, drop, seen_in, tells_did_twice}
 use Rattle.gm_refusals.proofs.found_mirror.tells_did_twice.Given as goal
 
 abbrev pub invariant-loop-i : goal.invariant-loop-i

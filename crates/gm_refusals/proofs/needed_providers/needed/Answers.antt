@@ -1,4 +1,4 @@
-use Rattle.std.proofs.Common.{◌∙◌}
+use Rattle.gm_refusals.proofs.Common.{◌∙◌}
 use Rattle.gm_refusals.proofs.PartAgrees.{needed_on}
 use Rattle.gm_refusals.proofs.needed_providers.needed.Goals as goal
 

@@ -1,6 +1,4 @@
-use Rattle.std.proofs.Common.{◌∙◌, not, ap}
-use Rattle.gm_refusals.specs.Seen.{seen_in}
-use Rattle.gm_refusals.specs.Adoptable.{is_adoptable}
+use Rattle.gm_refusals.proofs.Common.{◌∙◌, not, ap, seen_in, is_adoptable}
 use Rattle.gm_refusals.proofs.predicates.is_unfit.Goals as goal
 
 pub returns-in-Adopt : goal.returns-in-Adopt

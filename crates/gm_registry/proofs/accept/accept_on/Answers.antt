@@ -1,12 +1,4 @@
-use Rattle.std.proofs.Common.{◌≡◌, ◌+◌, ◌∷◌, ◌∙◌, ℕ, Ok, List, length, ap, sym, rules, arith, subst}
-use Rattle.sqlite.specs.Held.{state}
-use Rattle.gm_state.specs.Rows.{Tables, CommandRow}
-use Rattle.gm_registry.specs.Changes.{changed_in, command_row, left_of, with_accepted, with_entry}
-use Rattle.gm_registry.specs.Registry.{HasTables, MayLeave}
-use Rattle.gm_registry.specs.Replies.{count_of}
-use Rattle.gm_registry.specs.declared.accept.Entry.{Entry}
-use Rattle.gm_registry.specs.declared.intents.Pending.{Pending}
-use Rattle.sqlite_rows.proofs.Refusing.{on_err}
+use Rattle.gm_registry.proofs.Common.{◌≡◌, ◌+◌, ◌∷◌, ◌∙◌, ℕ, Ok, List, length, ap, sym, rules, arith, subst, state, Tables, CommandRow, changed_in, command_row, left_of, with_accepted, with_entry, HasTables, MayLeave, count_of, Entry, Pending, on_err}
 use Rattle.gm_registry.proofs.CallsLeave.{then_writes, never_ok}
 use Rattle.gm_registry.proofs.CountedThrough.{left_commands}
 use Rattle.gm_registry.proofs.Keys.{others_apart}

@@ -1,5 +1,5 @@
 use Rattle.gm_registry.proofs.InsideCalls.{all_done, did, no_call, then_fails}
-use Rattle.std.proofs.Common.{arith}
+use Rattle.gm_registry.proofs.Common.{arith}
 use Rattle.gm_registry.proofs.accept.drop_some_mirror.Goals as goal
 
 pub returns-in_ok-drop_mirror : goal.returns-in_ok-drop_mirror

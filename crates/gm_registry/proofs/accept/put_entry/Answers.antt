@@ -1,10 +1,7 @@
 use Rattle.gm_registry.proofs.FittingInTurn.{records_fit, takes_behind, takes_bytes, takes_last}
 use Rattle.gm_registry.proofs.InsideCalls.{all_done, and_did, did, no_call, then_fails}
 use Rattle.gm_registry.proofs.StepsInTurn.{less_room}
-use Rattle.gm_registry.specs.Registry.{seen}
-use Rattle.gm_state.specs.Rows.{intent_rows}
-use Rattle.std.proofs.Common.{length}
-use Rattle.std.proofs.Common.{arith}
+use Rattle.gm_registry.proofs.Common.{seen, intent_rows, length, arith}
 use Rattle.gm_registry.proofs.accept.put_entry.Goals as goal
 
 pub returns-in_err-put_records : goal.returns-in_err-put_records

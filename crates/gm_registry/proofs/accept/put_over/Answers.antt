@@ -1,8 +1,6 @@
 use Rattle.gm_registry.proofs.InsideCalls.{did, no_call, then_does, then_fails}
 use Rattle.gm_registry.proofs.StepsInTurn.{less_room}
-use Rattle.gm_registry.specs.FittingChanges.{rows_in}
-use Rattle.gm_registry.specs.Registry.{seen}
-use Rattle.std.proofs.Common.{arith}
+use Rattle.gm_registry.proofs.Common.{rows_in, seen, arith}
 use Rattle.gm_registry.proofs.accept.put_over.Goals as goal
 
 pub returns-in_err-drop_pending : goal.returns-in_err-drop_pending

@@ -1,8 +1,7 @@
 use Rattle.gm_registry.proofs.FittingInTurn.{takes_some}
 use Rattle.gm_registry.proofs.InsideCalls.{and_did, did, no_call, then_does, then_fails}
 use Rattle.gm_registry.proofs.StepsInTurn.{less_room}
-use Rattle.gm_registry.specs.Registry.{seen}
-use Rattle.std.proofs.Common.{arith, length}
+use Rattle.gm_registry.proofs.Common.{seen, arith, length}
 use Rattle.gm_registry.proofs.accept.put_records.Goals as goal
 
 pub returns-in_err-drop_components : goal.returns-in_err-drop_components

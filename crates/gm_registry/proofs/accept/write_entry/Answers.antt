@@ -1,15 +1,7 @@
 use Rattle.gm_registry.proofs.CountedThrough.{left_numbered}
 use Rattle.gm_registry.proofs.FittingInTurn.{left_uncounted, next_uncounted}
 use Rattle.gm_registry.proofs.InsideCalls.{committed_change, undone_change}
-use Rattle.gm_registry.specs.Changes.{changed_in, left_of, with_entry}
-use Rattle.gm_registry.specs.Fitting.{HasRoom}
-use Rattle.gm_registry.specs.FittingChanges.{FitsTables, rows_in}
-use Rattle.gm_registry.specs.Registry.{WritesGiven}
-use Rattle.gm_registry.specs.Replies.{count_of}
-use Rattle.gm_state.specs.Rows.{Tables}
-use Rattle.sqlite.specs.Held.{Held}
-use Rattle.sqlite.specs.Tree.{Trees}
-use Rattle.std.proofs.Common.{◌≡◌, ◌+◌, rules, subst}
+use Rattle.gm_registry.proofs.Common.{changed_in, left_of, with_entry, HasRoom, FitsTables, rows_in, WritesGiven, count_of, Tables, Held, Trees, ◌≡◌, ◌+◌, rules, subst}
 use Rattle.gm_registry.proofs.accept.write_entry.Goals as goal
 
 pub returns-in_err-put_over : goal.returns-in_err-put_over

@@ -1,10 +1,4 @@
-use Rattle.std.proofs.Common.{◌≡◌, OnOk, OnErr, IsTrue, sym, subst, arith, rules}
-use Rattle.sqlite.specs.State.{HasCleanDisk, Survives}
-use Rattle.sqlite.specs.Held.{Held, state}
-use Rattle.sqlite_rows.proofs.Refusing.{if_err, map_ok, on_err}
-use Rattle.gm_rows.specs.Tables.{SeesRegistry}
-use Rattle.gm_registry.specs.Opening.{IsAsBefore, IsCarriedOver, IsFirstInside, SeesFirstRegistry}
-use Rattle.gm_registry.specs.Registry.{StoreFailed}
+use Rattle.gm_registry.proofs.Common.{◌≡◌, OnOk, OnErr, IsTrue, sym, subst, arith, rules, HasCleanDisk, Survives, Held, state, if_err, map_ok, on_err, SeesRegistry, IsAsBefore, IsCarriedOver, IsFirstInside, SeesFirstRegistry, StoreFailed}
 use Rattle.gm_registry.proofs.CarriedOver.{carried_inside, committed_over, first_begun, not_committed_first, undone_first}
 use Rattle.gm_registry.proofs.InTransaction.{commit_fails, commit_leaves, commit_survives, undone_fails}
 use Rattle.gm_registry.proofs.InsideFails.{passed_on}

@@ -1,7 +1,4 @@
-use Rattle.std.proofs.Common.{rules}
-use Rattle.std.proofs.Common.{arith}
-use Rattle.sqlite.specs.State.{HasCleanDisk}
-use Rattle.sqlite.specs.Held.{state}
+use Rattle.gm_registry.proofs.Common.{rules, arith, HasCleanDisk, state}
 use Rattle.gm_registry.proofs.Failures.{failed_since}
 use Rattle.gm_registry.proofs.InsideFails.{passed_on}
 use Rattle.gm_registry.proofs.carry_over.carry_tables.Goals as goal

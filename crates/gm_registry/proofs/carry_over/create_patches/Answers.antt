@@ -1,6 +1,4 @@
-use Rattle.std.proofs.Common.{rules}
-use Rattle.sqlite.specs.Held.{state}
-use Rattle.sqlite_rows.proofs.Statements.{keeps_held}
+use Rattle.gm_registry.proofs.Common.{rules, state, keeps_held}
 use Rattle.gm_registry.proofs.CarryingOver.{at_patches, patches_fail}
 use Rattle.gm_registry.proofs.carry_over.create_patches.Goals as goal
 

@@ -1,7 +1,4 @@
-use Rattle.std.proofs.Common.{rules}
-use Rattle.sqlite.specs.Held.{state}
-use Rattle.gm_rows.specs.Queries.{IsNumberShown}
-use Rattle.gm_rows.specs.declared.command_numbers.CommandNumber.TheVariants.{Least, Greatest}
+use Rattle.gm_registry.proofs.Common.{rules, state, IsNumberShown, Least, Greatest}
 use Rattle.gm_registry.proofs.ReadsInTurn.{read_then, clean_before, carried}
 use Rattle.gm_registry.proofs.SomeReads.{and_read, then_query_fails}
 use Rattle.gm_registry.proofs.command_numbers.fetch_numbers.Goals as goal

@@ -1,6 +1,4 @@
-use Rattle.std.proofs.Common.{rules}
-use Rattle.std.proofs.Common.{sym, ◌∙◌}
-use Rattle.sqlite.specs.Held.{state}
+use Rattle.gm_registry.proofs.Common.{rules, sym, ◌∙◌, state}
 use Rattle.gm_registry.proofs.NumberQueries.{shows_number, read_number, failed_number, fault_number}
 use Rattle.gm_registry.proofs.command_numbers.rows_with.Goals as goal
 

@@ -3,13 +3,7 @@ use Rattle.gm_registry.proofs.FittingCommands.{put_command_stops, put_command_wh
 use Rattle.gm_registry.proofs.InsideCalls.{executes}
 use Rattle.gm_registry.proofs.NumberedSteps.{put_command_numbers}
 use Rattle.gm_registry.proofs.TextMeanings.{command_terms, put_command_is}
-use Rattle.gm_registry.specs.Changes.{row_under, with_command}
-use Rattle.gm_registry.specs.Fitting.{TakesCommand}
-use Rattle.gm_rows.specs.Rows.{command_values}
-use Rattle.gm_rows.specs.Statements.{put_command_text}
-use Rattle.sqlite.specs.Command.TheVariants.{Insert}
-use Rattle.sqlite.specs.Source.TheVariants.{Values}
-use Rattle.std.proofs.Common.{refl}
+use Rattle.gm_registry.proofs.Common.{row_under, with_command, TakesCommand, command_values, put_command_text, Insert, Values, refl}
 use Rattle.gm_registry.proofs.commands.put_row.Goals as goal
 
 pub returns : goal.returns

@@ -3,11 +3,7 @@ use Rattle.gm_registry.proofs.FittingDeletes.{drop_component_stops, drop_compone
 use Rattle.gm_registry.proofs.InsideCalls.{executes}
 use Rattle.gm_registry.proofs.NumberedSteps.{drop_component_numbers}
 use Rattle.gm_registry.proofs.TextMeanings.{drop, drop_component_is}
-use Rattle.gm_registry.specs.Changes.{without_component}
-use Rattle.gm_rows.specs.Statements.{drop_component_text}
-use Rattle.sqlite.specs.declared.types.Value.TheVariants.{Text}
-use Rattle.std.proofs.Common.{[], ◌∷◌, refl}
-use Rattle.std.specs.Prelude.{⊤}
+use Rattle.gm_registry.proofs.Common.{without_component, drop_component_text, Text, [], ◌∷◌, refl, ⊤}
 use Rattle.gm_registry.proofs.components.drop_component.Goals as goal
 
 pub returns : goal.returns

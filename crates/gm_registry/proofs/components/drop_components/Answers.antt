@@ -1,9 +1,4 @@
-use Rattle.std.proofs.Common.{◌+◌, [], take, refl, sym, subst, arith}
-use Rattle.std.proofs.lemmas.List.{take_all}
-use Rattle.sqlite.specs.Held.{state}
-use Rattle.sqlite_rows.proofs.Looping.{one_more}
-use Rattle.gm_rows.specs.Tables.{IsInside}
-use Rattle.gm_registry.specs.Changes.{without_component, without_components}
+use Rattle.gm_registry.proofs.Common.{◌+◌, [], take, refl, sym, subst, arith, take_all, state, one_more, IsInside, without_component, without_components}
 use Rattle.gm_registry.proofs.InsideCalls.{all_done, and_did, did_as, none_did, then_fails}
 use Rattle.gm_registry.proofs.components.drop_components.Goals as goal
 

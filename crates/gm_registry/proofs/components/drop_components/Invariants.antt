@@ -1,5 +1,4 @@
-use Rattle.std.proofs.Common.{take}
-use Rattle.gm_registry.specs.Changes.{without_components}
+use Rattle.gm_registry.proofs.Common.{take, without_components}
 use Rattle.gm_registry.proofs.InsideCalls.{Did}
 use Rattle.gm_registry.proofs.components.drop_components.Given as goal
 

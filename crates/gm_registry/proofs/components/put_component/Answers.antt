@@ -4,14 +4,8 @@ use Rattle.gm_registry.proofs.FittingIntents.{text_of_label}
 use Rattle.gm_registry.proofs.InsideCalls.{executes}
 use Rattle.gm_registry.proofs.NumberedSteps.{put_component_numbers}
 use Rattle.gm_registry.proofs.TextMeanings.{upsert, upsert_component_is}
-use Rattle.gm_registry.specs.Changes.{with_component}
-use Rattle.gm_registry.specs.Fitting.{TakesComponent}
-use Rattle.gm_rows.specs.Rows.{component_values}
-use Rattle.gm_rows.specs.Statements.{upsert_component_text}
+use Rattle.gm_registry.proofs.Common.{with_component, TakesComponent, component_values, upsert_component_text, component_row, ◌*◌, ◌<◌, arith, length, refl, subst, w64, to_z_pos}
 use Rattle.gm_state.specs.Disks.{held_of}
-use Rattle.gm_state.specs.Rows.{component_row}
-use Rattle.std.proofs.Common.{◌*◌, ◌<◌, arith, length, refl, subst, w64}
-use Rattle.std.proofs.lemmas.Int.{to_z_pos}
 use Rattle.gm_registry.proofs.components.put_component.Goals as goal
 
 pub returns : goal.returns

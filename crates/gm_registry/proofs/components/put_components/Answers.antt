@@ -1,10 +1,4 @@
-use Rattle.std.proofs.Common.{◌+◌, [], length, take, refl, sym, ap, subst, arith}
-use Rattle.std.proofs.lemmas.List.{take_all}
-use Rattle.sqlite.specs.Held.{state}
-use Rattle.sqlite_rows.proofs.Looping.{one_more}
-use Rattle.gm_state.specs.Rows.{component_row}
-use Rattle.gm_rows.specs.Tables.{IsInside}
-use Rattle.gm_registry.specs.Changes.{with_component, with_components}
+use Rattle.gm_registry.proofs.Common.{◌+◌, [], length, take, refl, sym, ap, subst, arith, take_all, state, one_more, component_row, IsInside, with_component, with_components}
 use Rattle.gm_registry.proofs.FittingInTurn.{placed_at, one_longer, within_all}
 use Rattle.gm_registry.proofs.InsideCalls.{all_done, and_did, did_as, none_did, then_fails}
 use Rattle.gm_registry.proofs.StepsInTurn.{less_room}

@@ -1,5 +1,4 @@
-use Rattle.std.proofs.Common.{length, take}
-use Rattle.gm_registry.specs.Changes.{with_components}
+use Rattle.gm_registry.proofs.Common.{length, take, with_components}
 use Rattle.gm_registry.proofs.InsideCalls.{Did}
 use Rattle.gm_registry.proofs.components.put_components.Given as goal
 

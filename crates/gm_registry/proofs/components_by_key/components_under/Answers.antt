@@ -1,24 +1,7 @@
-use Rattle.std.proofs.Common.{rules}
-use Rattle.std.proofs.Common.{◌∙◌, [], inl, inr, refl, sym, subst, flat_map, IsPermutation}
-use Rattle.std.proofs.lemmas.List.{take_all}
-use Rattle.std.proofs.lemmas.List.Sorted.{IsPermutation-refl}
-use Rattle.sqlite.specs.Held.{state}
-use Rattle.sqlite_rows.proofs.Reading.{read_at_most}
-use Rattle.sqlite_rows.proofs.Refusing.{on_err}
-use Rattle.gm_registry.specs.Keys.{under}
-use Rattle.gm_registry.specs.Reads.{IsOurSchema}
+use Rattle.gm_registry.proofs.Common.{rules, ◌∙◌, [], inl, inr, refl, sym, subst, flat_map, IsPermutation, take_all, IsPermutation-refl, state, read_at_most, on_err, under, IsOurSchema, passed_on, map, map-append, component_shown, shown_under, seen, Contains-Has, IsComponentValue, SayNone}
 use Rattle.gm_rows.proofs.FoundLabels.{one_more}
 use Rattle.gm_registry.proofs.ReadsInTurn.{clean_before}
-use Rattle.gm_rows.proofs.RowsSayRecords.{passed_on}
 use Rattle.gm_registry.proofs.SomeReads.{some_then, some_failed, some_stay, some_later, failed_clean}
-use Rattle.std.proofs.Common.{map}
-use Rattle.std.proofs.lemmas.List.{map-append}
-use Rattle.gm_rows.specs.Says.{component_shown}
-use Rattle.gm_registry.specs.Keys.{shown_under}
-use Rattle.gm_registry.specs.Registry.{seen}
-use Rattle.gm_lists.proofs.Sorting.{Contains-Has}
-use Rattle.gm_rows.specs.Values.{IsComponentValue}
-use Rattle.gm_registry.specs.Parts.{SayNone}
 use Rattle.gm_registry.proofs.SaidParts.{some_carried}
 use Rattle.gm_registry.proofs.SilentParts.{none_under}
 use Rattle.gm_registry.proofs.components_by_key.components_under.Goals as goal

@@ -1,10 +1,5 @@
-use Rattle.std.proofs.Common.{take, map, flat_map, IsPermutation}
-use Rattle.gm_state.specs.Records.{Records}
-use Rattle.gm_state.specs.Rows.{Tables}
-use Rattle.gm_registry.specs.Keys.{shown_under, under}
-use Rattle.gm_rows.specs.Says.{component_shown}
-use Rattle.gm_rows.specs.ReadableTables.{AreRecordsOf}
-use Rattle.gm_registry.specs.Registry.{DiskKept, HasTables, HaveRead, IsOurs, seen}
+use Rattle.gm_registry.proofs.Common.{take, map, flat_map, IsPermutation, Records, Tables, shown_under, under, component_shown, AreRecordsOf, DiskKept, HasTables, HaveRead, seen}
+use Rattle.gm_registry.specs.Registry.{IsOurs}
 use Rattle.gm_registry.proofs.components_by_key.components_under.Given as goal
 
 -- the components of the labels so far

@@ -1,18 +1,7 @@
-use Rattle.std.proofs.Common.{rules}
-use Rattle.std.proofs.Common.{◌∙◌, sym, ap, map, subst}
-use Rattle.sqlite.specs.Held.{state}
-use Rattle.sqlite_rows.proofs.Reading.{read_at_most}
-use Rattle.sqlite_rows.proofs.Refusing.{if_ok, if_err, on_err}
-use Rattle.gm_registry.specs.Keys.{AreUnder}
-use Rattle.gm_registry.specs.Reads.{IsOurSchema}
-use Rattle.gm_rows.specs.Values.{columns_at, nine}
+use Rattle.gm_registry.proofs.Common.{rules, ◌∙◌, sym, ap, map, subst, state, read_at_most, if_ok, if_err, on_err, AreUnder, IsOurSchema, columns_at, nine, filter, component_shown, row_is_under, IsComponentValue}
 use Rattle.gm_registry.proofs.ReadsInTurn.{ours, counted}
 use Rattle.gm_registry.proofs.RecordsUnder.{components_read, no_components}
-use Rattle.std.proofs.Common.{filter}
-use Rattle.gm_rows.specs.Says.{component_shown}
-use Rattle.gm_registry.specs.Keys.{row_is_under}
 use Rattle.gm_registry.proofs.SaidParts.{said_by}
-use Rattle.gm_rows.specs.Values.{IsComponentValue}
 use Rattle.gm_registry.proofs.SilentParts.{none_by}
 use Rattle.gm_registry.proofs.components_by_key.components_with.Goals as goal
 

@@ -1,6 +1,4 @@
-use Rattle.std.proofs.Common.{rules}
-use Rattle.std.proofs.Common.{sym, ◌∙◌}
-use Rattle.sqlite.specs.Held.{state}
+use Rattle.gm_registry.proofs.Common.{rules, sym, ◌∙◌, state}
 use Rattle.gm_registry.proofs.UnderKeys.{shows_under, read_under, failed_under, fault_under}
 use Rattle.gm_registry.proofs.components_by_key.rows_under.Goals as goal
 

@@ -1,14 +1,4 @@
-use Rattle.std.proofs.Common.{◌≡◌, OnOk, sym, subst, arith, rules}
-use Rattle.sqlite.specs.State.{HasCleanDisk, Survives}
-use Rattle.sqlite.specs.Held.{Held, state}
-use Rattle.sqlite.specs.Tree.{Trees}
-use Rattle.sqlite.proofs.StateLemmas.{survives_then}
-use Rattle.sqlite_rows.proofs.Statements.{committed}
-use Rattle.sqlite_rows.proofs.Refusing.{if_err, under_ok}
-use Rattle.gm_rows.specs.Schema.{registry_schema}
-use Rattle.gm_rows.specs.Tables.{HasCounted, SeesTables, Holds, no_tables}
-use Rattle.gm_registry.specs.Opening.{no_rows, IsBlank, IsBlankInside}
-use Rattle.gm_registry.specs.Registry.{StoreFailed}
+use Rattle.gm_registry.proofs.Common.{◌≡◌, OnOk, sym, subst, arith, rules, HasCleanDisk, Survives, Held, state, Trees, survives_then, committed, if_err, under_ok, registry_schema, HasCounted, SeesTables, Holds, no_tables, no_rows, IsBlank, IsBlankInside, StoreFailed}
 use Rattle.gm_registry.proofs.CountedThrough.{counted_inside}
 use Rattle.gm_registry.proofs.Failures.{failed_since}
 use Rattle.gm_registry.proofs.InTransaction.{commit_fails, commit_leaves, undone_fails}

@@ -1,7 +1,4 @@
-use Rattle.std.proofs.Common.{rules}
-use Rattle.std.proofs.Common.{arith}
-use Rattle.sqlite.specs.State.{HasCleanDisk}
-use Rattle.sqlite.specs.Held.{state}
+use Rattle.gm_registry.proofs.Common.{rules, arith, HasCleanDisk, state}
 use Rattle.gm_registry.proofs.CreatableTables.{makes_about, makes_mirrors, makes_components, makes_intents, makes_commands, makes_patches}
 use Rattle.gm_registry.proofs.InsideFails.{passed_on}
 use Rattle.gm_registry.proofs.MadeTables.{tables_made}

@@ -1,6 +1,4 @@
-use Rattle.std.proofs.Common.{rules}
-use Rattle.sqlite.specs.Held.{state}
-use Rattle.sqlite_rows.proofs.Statements.{keeps_held}
+use Rattle.gm_registry.proofs.Common.{rules, state, keeps_held}
 use Rattle.gm_registry.proofs.MadeTables.{at_about}
 use Rattle.gm_registry.proofs.MakingFails.{about_fails}
 use Rattle.gm_registry.proofs.create.put_about.Goals as goal

@@ -1,5 +1,5 @@
 use Rattle.gm_registry.proofs.InsideCalls.{all_done, and_did, did, no_call, then_fails}
-use Rattle.std.proofs.Common.{arith}
+use Rattle.gm_registry.proofs.Common.{arith}
 use Rattle.gm_registry.proofs.intents.drop_all.Goals as goal
 
 pub returns-in_err-drop_intents : goal.returns-in_err-drop_intents

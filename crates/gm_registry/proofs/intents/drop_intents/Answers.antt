@@ -3,10 +3,7 @@ use Rattle.gm_registry.proofs.FittingClears.{drop_intents_stops, settle_whole}
 use Rattle.gm_registry.proofs.InsideCalls.{executes}
 use Rattle.gm_registry.proofs.NumberedSteps.{drop_intents_numbers}
 use Rattle.gm_registry.proofs.TextMeanings.{clear, settle_is}
-use Rattle.gm_registry.specs.Changes.{without_intents}
-use Rattle.gm_rows.specs.Statements.{settle_text}
-use Rattle.std.proofs.Common.{[], refl}
-use Rattle.std.specs.Prelude.{⊤}
+use Rattle.gm_registry.proofs.Common.{without_intents, settle_text, [], refl, ⊤}
 use Rattle.gm_registry.proofs.intents.drop_intents.Goals as goal
 
 pub returns : goal.returns

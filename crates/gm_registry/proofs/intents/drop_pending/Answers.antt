@@ -1,5 +1,5 @@
 use Rattle.gm_registry.proofs.InsideCalls.{all_done, no_call}
-use Rattle.std.proofs.Common.{arith}
+use Rattle.gm_registry.proofs.Common.{arith}
 use Rattle.gm_registry.proofs.intents.drop_pending.Goals as goal
 
 pub returns-in-Stays : goal.returns-in-Stays

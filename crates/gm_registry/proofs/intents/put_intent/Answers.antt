@@ -1,7 +1,6 @@
 use Rattle.gm_registry.proofs.FittingIntents.{labels_short, text_of_label}
 use Rattle.gm_registry.proofs.InsideCalls.{no_call, then_does}
-use Rattle.gm_registry.specs.Fitting.{AreShort}
-use Rattle.std.proofs.Common.{[], arith}
+use Rattle.gm_registry.proofs.Common.{AreShort, [], arith}
 use Rattle.gm_registry.proofs.intents.put_intent.Goals as goal
 
 pub returns-in-Meta : goal.returns-in-Meta

@@ -1,9 +1,4 @@
-use Rattle.std.proofs.Common.{◌≡◌, ◌+◌, [], take, refl, subst, arith}
-use Rattle.std.proofs.lemmas.List.{take_all}
-use Rattle.sqlite.specs.Held.{state}
-use Rattle.gm_state.specs.Rows.{intent_rows}
-use Rattle.gm_rows.specs.Tables.{IsInside}
-use Rattle.gm_registry.specs.Changes.{with_intents}
+use Rattle.gm_registry.proofs.Common.{◌≡◌, ◌+◌, [], take, refl, subst, arith, take_all, state, intent_rows, IsInside, with_intents}
 use Rattle.gm_registry.proofs.FittingIntents.{next_unnumbered}
 use Rattle.gm_registry.proofs.InsideCalls.{all_done, and_did, did_as, none_did, then_fails}
 use Rattle.gm_registry.proofs.PendingRows.{behind}

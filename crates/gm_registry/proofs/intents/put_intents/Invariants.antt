@@ -1,6 +1,4 @@
-use Rattle.std.proofs.Common.{◌≡◌, take}
-use Rattle.gm_state.specs.Rows.{intent_rows}
-use Rattle.gm_registry.specs.Changes.{with_intents}
+use Rattle.gm_registry.proofs.Common.{◌≡◌, take, intent_rows, with_intents}
 use Rattle.gm_registry.proofs.InsideCalls.{Did}
 use Rattle.gm_registry.proofs.intents.put_intents.Given as goal
 

@@ -3,12 +3,7 @@ use Rattle.gm_registry.proofs.FittingIntents.{put_intent_stops, put_intent_whole
 use Rattle.gm_registry.proofs.InsideCalls.{executes}
 use Rattle.gm_registry.proofs.NumberedSteps.{put_intent_numbers}
 use Rattle.gm_registry.proofs.TextMeanings.{intent_terms, put_intent_is}
-use Rattle.gm_registry.specs.Changes.{row_of_kind, with_intents}
-use Rattle.gm_registry.specs.Fitting.{AreShort, IsUnnumbered}
-use Rattle.gm_rows.specs.Statements.{put_intent_text}
-use Rattle.sqlite.specs.Command.TheVariants.{Insert}
-use Rattle.sqlite.specs.Source.TheVariants.{Values}
-use Rattle.std.proofs.Common.{[], ◌∷◌, arith, refl}
+use Rattle.gm_registry.proofs.Common.{row_of_kind, with_intents, AreShort, IsUnnumbered, put_intent_text, Insert, Values, [], ◌∷◌, arith, refl}
 use Rattle.gm_registry.proofs.intents.put_row.Goals as goal
 
 pub returns : goal.returns

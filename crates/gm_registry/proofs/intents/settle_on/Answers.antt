@@ -1,5 +1,4 @@
-use Rattle.sqlite_rows.proofs.Refusing.{if_err, map_ok}
-use Rattle.gm_registry.specs.Changes.{settled}
+use Rattle.gm_registry.proofs.Common.{if_err, map_ok, settled}
 use Rattle.gm_registry.proofs.CallsLeave.{writes}
 use Rattle.gm_registry.proofs.intents.settle_on.Goals as goal
 

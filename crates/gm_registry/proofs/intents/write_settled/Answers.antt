@@ -1,9 +1,5 @@
 use Rattle.gm_registry.proofs.InsideCalls.{committed_change, undone_change}
-use Rattle.gm_registry.specs.Changes.{settled}
-use Rattle.gm_registry.specs.Registry.{WritesGiven}
-use Rattle.sqlite.specs.Held.{Held}
-use Rattle.std.proofs.Common.{◌≡◌, rules, subst}
-use Rattle.std.specs.Prelude.{⊤}
+use Rattle.gm_registry.proofs.Common.{settled, WritesGiven, Held, ◌≡◌, rules, subst, ⊤}
 use Rattle.gm_registry.proofs.intents.write_settled.Goals as goal
 
 pub returns-in_err-drop_all : goal.returns-in_err-drop_all

@@ -1,8 +1,5 @@
-use Rattle.std.proofs.Common.{rules}
-use Rattle.sqlite.specs.Held.{state}
-use Rattle.sqlite_rows.proofs.Refusing.{if_ok, if_err}
+use Rattle.gm_registry.proofs.Common.{rules, state, if_ok, if_err, says_tables, tables_said, any_tables, any_rows}
 use Rattle.gm_registry.proofs.ReadsInTurn.{ours, counted, tables_stay, registry_ours, read_leaves}
-use Rattle.gm_rows.proofs.RowsSayTables.{says_tables, tables_said, any_tables, any_rows}
 use Rattle.gm_registry.proofs.Stored.{registry_numbers}
 use Rattle.gm_registry.proofs.CallsLeave.{saved, answered_reads, failed_reads}
 use Rattle.gm_registry.proofs.load.load_on.Goals as goal

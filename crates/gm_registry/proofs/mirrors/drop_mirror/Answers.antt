@@ -3,11 +3,7 @@ use Rattle.gm_registry.proofs.FittingDeletes.{drop_mirror_stops, drop_mirror_who
 use Rattle.gm_registry.proofs.InsideCalls.{executes}
 use Rattle.gm_registry.proofs.NumberedSteps.{drop_mirror_numbers}
 use Rattle.gm_registry.proofs.TextMeanings.{drop, drop_mirror_is}
-use Rattle.gm_registry.specs.Changes.{without_mirror}
-use Rattle.gm_registry.specs.Fitting.{HasNoComponents}
-use Rattle.gm_rows.specs.Statements.{drop_mirror_text}
-use Rattle.sqlite.specs.declared.types.Value.TheVariants.{Text}
-use Rattle.std.proofs.Common.{[], ◌∷◌, refl}
+use Rattle.gm_registry.proofs.Common.{without_mirror, HasNoComponents, drop_mirror_text, Text, [], ◌∷◌, refl}
 use Rattle.gm_registry.proofs.mirrors.drop_mirror.Goals as goal
 
 pub returns : goal.returns

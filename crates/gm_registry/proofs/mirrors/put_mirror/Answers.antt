@@ -4,13 +4,7 @@ use Rattle.gm_registry.proofs.FittingMirrors.{put_mirror_stops, upsert_mirror_wh
 use Rattle.gm_registry.proofs.InsideCalls.{executes}
 use Rattle.gm_registry.proofs.NumberedSteps.{put_mirror_numbers}
 use Rattle.gm_registry.proofs.TextMeanings.{upsert, upsert_mirror_is}
-use Rattle.gm_registry.specs.Changes.{with_mirror}
-use Rattle.gm_registry.specs.Fitting.{TakesMirror}
-use Rattle.gm_rows.specs.Rows.{mirror_values}
-use Rattle.gm_rows.specs.Statements.{upsert_mirror_text}
-use Rattle.gm_state.specs.Rows.{mirror_row}
-use Rattle.std.proofs.Common.{◌*◌, ◌<◌, arith, length, refl, subst, w64}
-use Rattle.std.proofs.lemmas.Int.{to_z_pos}
+use Rattle.gm_registry.proofs.Common.{with_mirror, TakesMirror, mirror_values, upsert_mirror_text, mirror_row, ◌*◌, ◌<◌, arith, length, refl, subst, w64, to_z_pos}
 use Rattle.gm_registry.proofs.mirrors.put_mirror.Goals as goal
 
 pub returns : goal.returns

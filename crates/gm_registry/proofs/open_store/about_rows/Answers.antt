@@ -1,8 +1,4 @@
-use Rattle.std.proofs.Common.{rules}
-use Rattle.std.proofs.Common.{sym, ◌∙◌}
-use Rattle.sqlite.specs.Held.{state}
-use Rattle.gm_rows.specs.declared.fetched.Table.TheVariants.{About}
-use Rattle.gm_registry.specs.Opening.{IsOfRegistry}
+use Rattle.gm_registry.proofs.Common.{rules, sym, ◌∙◌, state, About, IsOfRegistry}
 use Rattle.gm_registry.proofs.WholeQueries.{shows, read, failed}
 use Rattle.gm_registry.proofs.Failures.{table_failed}
 use Rattle.gm_registry.proofs.open_store.about_rows.Goals as goal

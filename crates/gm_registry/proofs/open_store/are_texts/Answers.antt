@@ -1,11 +1,5 @@
-use Rattle.std.proofs.Common.{◌≡◌, ◌∙◌, List, sym, map, length, eqb-true, arith}
-use Rattle.std.proofs.lemmas.Bool.{true≢false}
-use Rattle.std.proofs.lemmas.List.{length-map}
-use Rattle.sqlite.specs.Order.{Row}
-use Rattle.gm_rows.specs.Values.{columns_at, two}
+use Rattle.gm_registry.proofs.Common.{◌≡◌, ◌∙◌, List, sym, map, length, eqb-true, arith, true≢false, length-map, Row, columns_at, two, tables_of, AllStand, First}
 use Rattle.gm_registry.proofs.Texts.{all_five, five_stand, all_six, six_stand}
-use Rattle.gm_registry.specs.Listing.{tables_of, AllStand}
-use Rattle.gm_registry.specs.declared.edition.Edition.TheVariants.{First}
 use Rattle.gm_registry.proofs.open_store.are_texts.Goals.{then-rows-eq6, else-rows-eq6}
 use Rattle.gm_registry.proofs.open_store.are_texts.Goals as goal
 

@@ -1,18 +1,6 @@
-use Rattle.std.proofs.Common.{rules}
-use Rattle.std.proofs.Common.{◌≡◌, ◌∙◌, true, false, map, List, IsPermutation, sym, subst, subst₂, arith}
-use Rattle.sqlite.specs.Order.{Row}
-use Rattle.sqlite.specs.State.{HasCleanDisk}
-use Rattle.sqlite.specs.Held.{state}
-use Rattle.gm_rows.specs.Values.{columns_at, two}
-use Rattle.gm_rows.specs.Says.{IsAbout}
-use Rattle.gm_registry.specs.Opening.{IsOfRegistry}
-use Rattle.gm_registry.specs.Listing.{tables_of, ShowsList}
-use Rattle.gm_rows.specs.Queries.{IsShown}
-use Rattle.gm_rows.specs.declared.fetched.Table.TheVariants.{About}
+use Rattle.gm_registry.proofs.Common.{rules, ◌≡◌, ◌∙◌, true, false, map, List, IsPermutation, sym, subst, subst₂, arith, Row, HasCleanDisk, state, columns_at, two, IsAbout, IsOfRegistry, tables_of, ShowsList, IsShown, About, passed_on, carried_over, failed_then_over, read_at_most, read_then_over, known_closer, failed_closer}
 use Rattle.gm_registry.proofs.Abouts.{about_told, about_shown}
-use Rattle.gm_rows.proofs.RowsSayRecords.{passed_on}
 use Rattle.gm_registry.proofs.Failures.{failed_later}
-use Rattle.sqlite_rows.proofs.Reading.{carried_over, failed_then_over, read_at_most, read_then_over, known_closer, failed_closer}
 use Rattle.gm_registry.proofs.Texts.{ours_known, ours_listed, ours_shown, not_foreign}
 use Rattle.gm_registry.proofs.open_store.check_registry.Goals as goal
 

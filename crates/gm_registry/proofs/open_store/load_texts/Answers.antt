@@ -1,9 +1,4 @@
-use Rattle.std.proofs.Common.{rules}
-use Rattle.std.proofs.Common.{[], ◌∙◌, sym}
-use Rattle.sqlite.specs.Held.{state}
-use Rattle.gm_rows.specs.Statements.{load_texts_text}
-use Rattle.gm_registry.specs.Listing.{ShowsList}
-use Rattle.sqlite_rows.proofs.Reading.{read_by, failed_by}
+use Rattle.gm_registry.proofs.Common.{rules, [], ◌∙◌, sym, state, load_texts_text, ShowsList, read_by, failed_by}
 use Rattle.gm_registry.proofs.Texts.{plain_list, lists, texts_failed}
 use Rattle.gm_registry.proofs.open_store.load_texts.Goals as goal
 

@@ -1,18 +1,4 @@
-use Rattle.std.proofs.Common.{◌≡◌, ◌≢◌, ◌∙◌, inl, inr, not, sym, ap, subst, rules}
-use Rattle.sqlite.specs.Effect.{Database}
-use Rattle.sqlite.specs.Held.{state}
-use Rattle.sqlite.specs.Schema.{Schema}
-use Rattle.sqlite_catalog.specs.Listing.{IsSound}
-use Rattle.sqlite.proofs.StateLemmas.{survives_weaker}
-use Rattle.sqlite_rows.proofs.Reading.{failed_closer, failed_leaves_over, known_closer}
-use Rattle.sqlite_rows.proofs.Refusing.{map_ok, if_err, both_ok, on_err}
-use Rattle.gm_rows.proofs.RowsSayRecords.{passed_on}
-use Rattle.gm_rows.specs.Schema.{no_schema}
-use Rattle.gm_registry.specs.Listing.{Lists, ShowsList}
-use Rattle.gm_registry.specs.Opening.{schema_of, IsNumbered, IsOfEdition, IsOfRegistry}
-use Rattle.gm_registry.specs.Reads.{IsOurSchema}
-use Rattle.gm_registry.specs.declared.edition.Edition.{Edition}
-use Rattle.gm_registry.specs.declared.edition.Edition.TheVariants.{First, Second}
+use Rattle.gm_registry.proofs.Common.{◌≡◌, ◌≢◌, ◌∙◌, inl, inr, not, sym, ap, subst, rules, Database, state, Schema, IsSound, survives_weaker, failed_closer, failed_leaves_over, known_closer, map_ok, if_err, both_ok, on_err, passed_on, no_schema, Lists, ShowsList, schema_of, IsNumbered, IsOfEdition, IsOfRegistry, IsOurSchema, Edition, First, Second}
 use Rattle.gm_registry.proofs.CarriedOver.{first_still, holds_over, sees_over}
 use Rattle.gm_registry.proofs.OpenedConnection.{IsJustOpened, blank, edition_seen, first_store, foreign_shown, has_first, has_tables, no_registry, not_empty, not_first, not_second, nothing_foreign, of_registry, only_first, only_second, registry_there, stored_as}
 use Rattle.gm_registry.proofs.ReadsInTurn.{nothing_new, tables_refused, tables_stay}

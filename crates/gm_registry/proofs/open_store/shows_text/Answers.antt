@@ -1,9 +1,5 @@
-use Rattle.std.proofs.Common.{◌≡◌, ◌+◌, ◌∙◌, inl, List, drop, map, true, false, refl, sym, subst, arith}
-use Rattle.sqlite.specs.Order.{Row}
-use Rattle.gm_lists.specs.Ordered.{Has}
-use Rattle.gm_rows.specs.Values.{columns_at, two}
-use Rattle.gm_registry.specs.Listing.{under_number}
-use Rattle.gm_state.proofs.Suffixes.{IsLeft, next_is, passed_over, none_left}
+use Rattle.gm_registry.proofs.Common.{◌≡◌, ◌+◌, ◌∙◌, inl, List, drop, map, true, false, refl, sym, subst, arith, Row, Has, columns_at, two, under_number, IsLeft, passed_over}
+use Rattle.gm_state.proofs.Suffixes.{next_is, none_left}
 use Rattle.gm_registry.proofs.open_store.shows_text.Goals as goal
 
 never : {A : Type 0} → false ≡ true → A

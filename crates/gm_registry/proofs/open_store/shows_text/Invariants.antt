@@ -1,7 +1,4 @@
-use Rattle.std.proofs.Common.{drop, map}
-use Rattle.gm_rows.specs.Values.{columns_at, two}
-use Rattle.gm_registry.specs.Listing.{under_number}
-use Rattle.gm_state.proofs.Suffixes.{IsLeft}
+use Rattle.gm_registry.proofs.Common.{drop, map, columns_at, two, under_number, IsLeft}
 use Rattle.gm_registry.proofs.open_store.shows_text.Given as goal
 
 -- the rows from row-index on are left to see

@@ -1,11 +1,4 @@
-use Rattle.std.proofs.Common.{◌∙◌, rules, sym, subst, arith}
-use Rattle.sqlite.specs.Effect.{Database}
-use Rattle.sqlite.specs.Held.{state}
-use Rattle.sqlite.specs.State.{HasCleanDisk}
-use Rattle.sqlite_rows.proofs.Refusing.{on_err}
-use Rattle.gm_rows.proofs.RowsSayRecords.{passed_on}
-use Rattle.gm_registry.specs.Opening.{IsCarriedOver}
-use Rattle.gm_registry.specs.declared.edition.Edition.TheVariants.{First}
+use Rattle.gm_registry.proofs.Common.{◌∙◌, rules, sym, subst, arith, Database, state, HasCleanDisk, on_err, passed_on, IsCarriedOver, First}
 use Rattle.gm_registry.proofs.CarriedOver.{as_before, carrying_left, first_found, known_first, same_stored}
 use Rattle.gm_registry.proofs.Failures.{failed_since}
 use Rattle.gm_registry.proofs.Texts.{still_foreign}

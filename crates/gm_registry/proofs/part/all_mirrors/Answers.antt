@@ -1,15 +1,7 @@
-use Rattle.std.proofs.Common.{rules}
-use Rattle.std.proofs.Common.{◌∙◌, sym, ap, map}
-use Rattle.sqlite.specs.Held.{state}
-use Rattle.sqlite_rows.proofs.Reading.{read_at_most}
-use Rattle.sqlite_rows.proofs.Refusing.{if_ok, if_err, on_err}
-use Rattle.gm_registry.specs.Reads.{IsOurSchema}
-use Rattle.gm_rows.specs.Values.{columns_at, nine}
+use Rattle.gm_registry.proofs.Common.{rules, ◌∙◌, sym, ap, map, state, read_at_most, if_ok, if_err, on_err, IsOurSchema, columns_at, nine, mirror_shown, IsMirrorValue}
 use Rattle.gm_registry.proofs.ReadsInTurn.{ours, counted}
 use Rattle.gm_registry.proofs.RecordsUnder.{mirrors_read, no_mirrors}
-use Rattle.gm_rows.specs.Says.{mirror_shown}
 use Rattle.gm_registry.proofs.SaidParts.{said_by}
-use Rattle.gm_rows.specs.Values.{IsMirrorValue}
 use Rattle.gm_registry.proofs.SilentParts.{none_by}
 use Rattle.gm_registry.proofs.part.all_mirrors.Goals as goal
 

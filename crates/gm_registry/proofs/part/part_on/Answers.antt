@@ -1,14 +1,10 @@
-use Rattle.std.proofs.Common.{rules}
-use Rattle.sqlite.specs.Held.{state}
+use Rattle.gm_registry.proofs.Common.{rules, state, part_of, ◌∙◌, sym, passed_on}
 use Rattle.gm_state.proofs.MadeState.{same_state}
-use Rattle.gm_refusals.specs.PartOf.{part_of}
 use Rattle.gm_registry.proofs.PartOf.{is_part}
 use Rattle.gm_registry.proofs.ReadsInTurn.{tables_stay}
 use Rattle.gm_registry.proofs.CallsLeave.{answered_reads, saved}
 use Rattle.gm_registry.proofs.ReadsInTurn.{registry_ours}
 use Rattle.gm_registry.proofs.SaidParts.{said_in_order}
-use Rattle.std.proofs.Common.{◌∙◌, sym}
-use Rattle.gm_rows.proofs.RowsSayRecords.{passed_on}
 use Rattle.gm_registry.proofs.SilentParts.{same_part}
 use Rattle.gm_registry.proofs.part.part_on.Goals as goal
 

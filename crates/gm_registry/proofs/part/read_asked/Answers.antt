@@ -1,33 +1,10 @@
-use Rattle.std.proofs.Common.{rules}
-use Rattle.std.proofs.Common.{◌≡◌, ◌∙◌, List, ℕ, sym, ap, subst, arith, map, filter, flat_map, length, IsPermutation}
-use Rattle.std.proofs.lemmas.List.Sorted.{length_permutation}
-use Rattle.sqlite.specs.Held.{state}
-use Rattle.sqlite_rows.proofs.Reading.{read_at_most}
-use Rattle.sqlite_rows.proofs.Refusing.{on_err}
-use Rattle.gm_state.specs.Records.{name}
-use Rattle.gm_refusals.specs.PartOf.{part_of}
-use Rattle.gm_registry.specs.Keys.{under}
-use Rattle.gm_registry.specs.Parts.{is_asked_by}
-use Rattle.gm_registry.specs.Reads.{IsOurSchema}
-use Rattle.gm_registry.specs.declared.components_by_key.Key.TheVariants.{Provider, Mirror}
-use Rattle.gm_registry.specs.Reads.{IsOurSchema}
+use Rattle.gm_registry.proofs.Common.{rules, ◌≡◌, ◌∙◌, List, ℕ, sym, ap, subst, arith, map, filter, flat_map, length, IsPermutation, length_permutation, state, read_at_most, on_err, name, part_of, under, is_asked_by, IsOurSchema, Provider, passed_on, length-map, IsPermutation-refl, Trees, shown_places, mirror_shown, component_shown, columns_at, Mirrors, shown_under, IsComponentValue, component_value, SayNone}
+use Rattle.gm_registry.specs.declared.components_by_key.Key.TheVariants.{Mirror}
 use Rattle.gm_registry.proofs.Failures.{failed_later}
 use Rattle.gm_registry.proofs.PartOf.{mirrors_asked, components_asked}
 use Rattle.gm_registry.proofs.ReadsInTurn.{failed_then, tables_stay}
-use Rattle.gm_rows.proofs.RowsSayRecords.{passed_on}
 use Rattle.gm_registry.proofs.SomeReads.{then_some, some_clean, some_stay, failed_clean}
-use Rattle.std.proofs.lemmas.List.{length-map}
-use Rattle.std.proofs.lemmas.List.Sorted.{IsPermutation-refl}
-use Rattle.sqlite.specs.Tree.{Trees}
-use Rattle.gm_rows.specs.Queries.{shown_places}
-use Rattle.gm_rows.specs.Says.{mirror_shown, component_shown}
-use Rattle.gm_rows.specs.Values.{columns_at}
-use Rattle.gm_rows.specs.declared.fetched.Table.TheVariants.{Mirrors}
-use Rattle.gm_registry.specs.Keys.{shown_under}
 use Rattle.gm_registry.proofs.ReadsInTurn.{carried}
-use Rattle.gm_rows.specs.Values.{IsComponentValue}
-use Rattle.gm_rows.proofs.TypedRecords.{component_value}
-use Rattle.gm_registry.specs.Parts.{SayNone}
 use Rattle.gm_registry.proofs.SilentParts.{asked_alike, owned_alike}
 use Rattle.gm_registry.proofs.part.read_asked.Goals as goal
 

@@ -3,10 +3,7 @@ use Rattle.gm_registry.proofs.FittingClears.{drop_bytes_stops, drop_patches_whol
 use Rattle.gm_registry.proofs.InsideCalls.{executes}
 use Rattle.gm_registry.proofs.NumberedSteps.{drop_bytes_numbers}
 use Rattle.gm_registry.proofs.TextMeanings.{clear, drop_patches_is}
-use Rattle.gm_registry.specs.Changes.{without_bytes}
-use Rattle.gm_rows.specs.Statements.{drop_patches_text}
-use Rattle.std.proofs.Common.{[], refl}
-use Rattle.std.specs.Prelude.{⊤}
+use Rattle.gm_registry.proofs.Common.{without_bytes, drop_patches_text, [], refl, ⊤}
 use Rattle.gm_registry.proofs.patches.drop_bytes.Goals as goal
 
 pub returns : goal.returns

@@ -1,9 +1,4 @@
-use Rattle.std.proofs.Common.{◌≡◌, ◌∙◌, ◌==◌, ℕ, inl, inr, List, [], ◌∷◌, true, false, length, sym, ap, subst, arith}
-use Rattle.sqlite.specs.Held.{state}
-use Rattle.gm_state.specs.Rows.{Tables, joined}
-use Rattle.gm_registry.specs.Changes.{with_bytes, with_patch}
-use Rattle.gm_rows.specs.Tables.{IsInside}
-use Rattle.gm_registry.specs.Fitting.{AreShort, TakesBytes, TakesPatch}
+use Rattle.gm_registry.proofs.Common.{◌≡◌, ◌∙◌, ◌==◌, ℕ, inl, inr, List, [], ◌∷◌, true, false, length, sym, ap, subst, arith, state, Tables, joined, with_bytes, with_patch, IsInside, AreShort, TakesBytes, TakesPatch}
 use Rattle.gm_registry.proofs.InsideCalls.{all_done, did, no_call, then_fails}
 use Rattle.gm_registry.proofs.patches.put_bytes.Goals as goal
 

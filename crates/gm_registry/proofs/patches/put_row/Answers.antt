@@ -3,13 +3,7 @@ use Rattle.gm_registry.proofs.FittingPatches.{put_patch_stops, put_patch_whole}
 use Rattle.gm_registry.proofs.InsideCalls.{executes}
 use Rattle.gm_registry.proofs.NumberedSteps.{put_patch_numbers}
 use Rattle.gm_registry.proofs.TextMeanings.{patch_terms, put_patch_is}
-use Rattle.gm_registry.specs.Changes.{with_patch}
-use Rattle.gm_registry.specs.Fitting.{TakesPatch}
-use Rattle.gm_rows.specs.Statements.{put_patch_text}
-use Rattle.sqlite.specs.Command.TheVariants.{Insert}
-use Rattle.sqlite.specs.Source.TheVariants.{Values}
-use Rattle.sqlite.specs.declared.types.Value.TheVariants.{Blob}
-use Rattle.std.proofs.Common.{[], ◌∷◌, refl}
+use Rattle.gm_registry.proofs.Common.{with_patch, TakesPatch, put_patch_text, Insert, Values, Blob, [], ◌∷◌, refl}
 use Rattle.gm_registry.proofs.patches.put_row.Goals as goal
 
 pub returns : goal.returns

@@ -1,15 +1,5 @@
-use Rattle.std.proofs.Common.{rules}
-use Rattle.std.proofs.Common.{◌∙◌, List, sym, subst₂}
-use Rattle.sqlite.specs.Held.{state}
-use Rattle.sqlite.specs.Order.{Row}
-use Rattle.sqlite.specs.State.{State, HasCleanDisk}
-use Rattle.sqlite_rows.proofs.Refusing.{if_ok, if_err}
-use Rattle.gm_rows.specs.Queries.{IsShown}
-use Rattle.gm_rows.specs.Says.{SayState}
-use Rattle.gm_rows.specs.declared.fetched.Table.TheVariants.{Components}
-use Rattle.gm_rows.proofs.RowsSayRecords.{passed_on}
+use Rattle.gm_registry.proofs.Common.{rules, ◌∙◌, List, sym, subst₂, state, Row, State, HasCleanDisk, if_ok, if_err, IsShown, SayState, Components, passed_on, IsOurSchema, IsOurs, HasRead}
 use Rattle.gm_rows.proofs.RowsSayState.{any_records, any_state, says_records}
-use Rattle.gm_registry.specs.Reads.{IsOurSchema, IsOurs, HasRead}
 use Rattle.gm_registry.proofs.CallsLeave.{saved, answered_reads, failed_reads}
 use Rattle.gm_registry.proofs.Failures.{failed_later}
 use Rattle.gm_registry.proofs.ReadsInTurn.{ours, counted, tables_stay, registry_ours, read_leaves, failed_leaves, read_then, failed_then, clean_before, carried}

@@ -1,7 +1,5 @@
-use Rattle.std.proofs.Common.{rules}
-use Rattle.std.proofs.Common.{arith, sym, ap, ◌∙◌, length, slice_get}
+use Rattle.gm_registry.proofs.Common.{rules, arith, sym, ap, ◌∙◌, length, slice_get, passed_on}
 use Rattle.gm_registry.proofs.LastCommand.{no_command, last_number, last_in_range}
-use Rattle.gm_rows.proofs.RowsSayRecords.{passed_on}
 use Rattle.gm_registry.proofs.CallsLeave.{saved}
 use Rattle.gm_registry.proofs.replies.accepted_on.Goals as goal
 

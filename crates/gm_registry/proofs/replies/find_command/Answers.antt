@@ -1,10 +1,4 @@
-use Rattle.std.proofs.Common.{[], ◌∷◌}
-use Rattle.sqlite.specs.declared.types.Value.TheVariants.{Text}
-use Rattle.sqlite.specs.Held.{state}
-use Rattle.sqlite_rows.proofs.Refusing.{if_ok, if_err, shown_has}
-use Rattle.gm_rows.specs.Statements.{find_command_text}
-use Rattle.gm_rows.specs.Schema.{registry_schema}
-use Rattle.gm_rows.specs.Tables.{HasCounted}
+use Rattle.gm_registry.proofs.Common.{[], ◌∷◌, Text, state, if_ok, if_err, shown_has, find_command_text, registry_schema, HasCounted}
 use Rattle.gm_registry.proofs.TextMeanings.{find_is}
 use Rattle.gm_registry.proofs.FoundReply.{finds}
 use Rattle.gm_registry.proofs.CallsLeave.{query_reads}

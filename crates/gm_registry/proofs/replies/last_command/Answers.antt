@@ -1,10 +1,4 @@
-use Rattle.std.proofs.Common.{[], ap}
-use Rattle.sqlite.specs.Effect.{Database}
-use Rattle.sqlite.specs.Held.{state}
-use Rattle.sqlite_rows.proofs.Refusing.{if_ok, if_err, map_ok, alone_ok, shown_has}
-use Rattle.gm_rows.specs.Statements.{last_command_text}
-use Rattle.gm_rows.specs.Schema.{registry_schema}
-use Rattle.gm_rows.specs.Tables.{HasCounted}
+use Rattle.gm_registry.proofs.Common.{[], ap, Database, state, if_ok, if_err, map_ok, alone_ok, shown_has, last_command_text, registry_schema, HasCounted}
 use Rattle.gm_registry.proofs.TextMeanings.{last_is}
 use Rattle.gm_registry.proofs.LastCommand.{lasts}
 use Rattle.gm_registry.proofs.CallsLeave.{query_reads}

@@ -1,9 +1,5 @@
-use Rattle.std.proofs.Common.{rules}
-use Rattle.std.proofs.Common.{arith, sym, ap, ◌∙◌, length, slice_get}
-use Rattle.std.proofs.lemmas.Slice.Eq.{bytes_eq-Decides}
-use Rattle.sqlite_rules.proofs.ListLemmas.{has_got}
+use Rattle.gm_registry.proofs.Common.{rules, arith, sym, ap, ◌∙◌, length, slice_get, bytes_eq-Decides, has_got, passed_on}
 use Rattle.gm_registry.proofs.FoundReply.{no_reply, found_row, a_reply}
-use Rattle.gm_rows.proofs.RowsSayRecords.{passed_on}
 use Rattle.gm_registry.proofs.CallsLeave.{saved}
 use Rattle.gm_registry.proofs.replies.reply_on.Goals as goal
 

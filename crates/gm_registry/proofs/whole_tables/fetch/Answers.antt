@@ -1,8 +1,4 @@
-use Rattle.std.proofs.Common.{rules}
-use Rattle.std.proofs.Common.{refl}
-use Rattle.sqlite.specs.Held.{state}
-use Rattle.gm_rows.specs.Queries.{IsShown, IsInOrder, AreNumbersShown}
-use Rattle.gm_rows.specs.declared.fetched.Table.TheVariants.{Mirrors, Components, Intents, Patches}
+use Rattle.gm_registry.proofs.Common.{rules, refl, state, IsShown, IsInOrder, AreNumbersShown, Mirrors, Components, Intents, Patches}
 use Rattle.gm_registry.proofs.ReadsInTurn.{read_then, clean_before, carried}
 use Rattle.gm_registry.proofs.SomeReads.{and_read, then_query_fails}
 use Rattle.gm_registry.proofs.whole_tables.fetch.Goals as goal

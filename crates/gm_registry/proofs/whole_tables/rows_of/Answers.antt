@@ -1,12 +1,6 @@
-use Rattle.std.proofs.Common.{rules}
-use Rattle.std.proofs.Common.{[], ◌∷◌, sym, ◌∙◌, subst}
-use Rattle.sqlite.specs.State.{Shown}
-use Rattle.sqlite.specs.Held.{state}
-use Rattle.gm_rows.specs.Queries.{query_text}
-use Rattle.gm_registry.specs.Reads.{IsOurSchema}
+use Rattle.gm_registry.proofs.Common.{rules, [], ◌∷◌, sym, ◌∙◌, subst, Shown, state, query_text, IsOurSchema, Intents}
 use Rattle.gm_registry.proofs.WholeQueries.{answers, ours_have, shows, read, failed}
 use Rattle.gm_rows.proofs.ShownInOrder.{in_order}
-use Rattle.gm_rows.specs.declared.fetched.Table.TheVariants.{Intents}
 use Rattle.gm_registry.proofs.Failures.{table_failed}
 use Rattle.gm_registry.proofs.whole_tables.rows_of.Goals as goal
 

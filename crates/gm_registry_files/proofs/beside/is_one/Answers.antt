@@ -1,7 +1,4 @@
-use Rattle.std.proofs.Common.{◌≡◌, ◌∙◌, false, ◌||◌, sym, ap}
-use Rattle.std.specs.List.{list_any}
-use Rattle.std.specs.Str.{bytes_eq}
-use Rattle.std.specs.String.{string_bytes}
+use Rattle.gm_registry_files.proofs.Common.{◌≡◌, ◌∙◌, false, ◌||◌, sym, ap, list_any, bytes_eq, string_bytes}
 use Rattle.gm_registry_files.proofs.SuffixedNames.{any_of_both}
 use Rattle.gm_registry_files.proofs.beside.is_one.Goals as goal
 

@@ -1,8 +1,4 @@
-use Rattle.std.proofs.Common.{◌≡◌, ◌∙◌, ◌++◌, None, Some, map, sym, ap}
-use Rattle.std.specs.String.{string_bytes}
-use Rattle.std.proofs.lemmas.Bool.Decides.{Decides-eqb}
-use Rattle.std.proofs.lemmas.Slice.Eq.{strip_suffix_is}
-use Rattle.gm_registry_files.specs.Beside.{is_with}
+use Rattle.gm_registry_files.proofs.Common.{◌≡◌, ◌∙◌, ◌++◌, None, Some, map, sym, ap, string_bytes, Decides-eqb, strip_suffix_is, is_with}
 use Rattle.gm_registry_files.proofs.SuffixedNames.{none_with, one_with}
 use Rattle.gm_registry_files.proofs.beside.is_with.Goals as goal
 

@@ -1,6 +1,4 @@
-use Rattle.std.proofs.Common.{◌≡◌, map, take}
-use Rattle.std.specs.String.{string_bytes}
-use Rattle.gm_registry_files.specs.Beside.{names_of}
+use Rattle.gm_registry_files.proofs.Common.{◌≡◌, map, take, string_bytes, names_of}
 use Rattle.gm_registry_files.proofs.beside.names_of.Given as goal
 
 abbrev pub invariant-loop-x : goal.invariant-loop-x

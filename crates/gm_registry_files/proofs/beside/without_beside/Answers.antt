@@ -1,8 +1,6 @@
-use Rattle.std.proofs.Common.{◌∙◌, ◌++◌, ap, filter, map, rules}
+use Rattle.gm_registry_files.proofs.Common.{◌∙◌, ◌++◌, ap, filter, map, rules, string_bytes, is_beside, names_of}
 use Rattle.std.specs.Prelude.{not}
-use Rattle.std.specs.String.{string_bytes}
 use Rattle.std.proofs.lemmas.Fn.{filter_same}
-use Rattle.gm_registry_files.specs.Beside.{is_beside, names_of}
 use Rattle.gm_registry_files.proofs.beside.without_beside.Goals as goal
 
 pub returns : goal.returns

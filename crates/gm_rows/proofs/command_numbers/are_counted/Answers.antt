@@ -1,5 +1,4 @@
-use Rattle.std.proofs.Common.{◌≡◌, sym, subst, true, false}
-use Rattle.gm_rows.specs.Says.{IsNumber}
+use Rattle.gm_rows.proofs.Common.{◌≡◌, sym, subst, true, false, IsNumber}
 use Rattle.gm_rows.proofs.command_numbers.are_counted.Goals as goal
 
 never : {A : Type 0} → false ≡ true → A

@@ -1,10 +1,4 @@
-use Rattle.std.proofs.Common.{◌≡◌, ◌∙◌, ◌==◌, ◌/◌, ◌%◌, ◌*◌, ℕ, List, [], ◌∷◌, true, false, length, drop, refl, sym, ap, subst, arith, eqb-true}
-use Rattle.std.proofs.Math.Nat.{mod-add-div'}
-use Rattle.std.specs.Simd.{first_chunks}
-use Rattle.sqlite_value.specs.declared.value.Value.{Value}
-use Rattle.sqlite.specs.declared.types.Value.TheVariants.{Blob}
-use Rattle.gm_state.specs.Readable.{AreSectors}
-use Rattle.gm_state.specs.Rows.{joined}
+use Rattle.gm_rows.proofs.Common.{◌≡◌, ◌∙◌, ◌==◌, ◌/◌, ◌%◌, ◌*◌, ℕ, List, [], ◌∷◌, true, false, length, drop, refl, sym, ap, subst, arith, eqb-true, mod-add-div', first_chunks, Value, Blob, AreSectors, joined}
 use Rattle.gm_rows.proofs.BlobSectors.{all_joined, none_left, pieces_whole}
 use Rattle.gm_rows.proofs.read_column.bytes_at.Goals as goal
 

@@ -1,8 +1,6 @@
-use Rattle.std.proofs.Common.{◌≡◌, List, ℕ, IsTrue, subst}
+use Rattle.gm_rows.proofs.Common.{◌≡◌, List, ℕ, IsTrue, subst, Value, is_label}
 use Rattle.std.specs.Str.{IsUtf8}
-use Rattle.sqlite_value.specs.declared.value.Value.{Value}
 use Rattle.sqlite_value.specs.declared.value.Value.TheVariants.{Text}
-use Rattle.gm_metadata.specs.Labels.{is_label}
 use Rattle.gm_metadata.proofs.Labels.{label_is_text}
 use Rattle.gm_rows.proofs.read_column.label_at.Goals as goal
 

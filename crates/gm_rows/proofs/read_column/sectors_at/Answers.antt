@@ -1,6 +1,4 @@
-use Rattle.std.proofs.Common.{◌≡◌, ◌<◌, ◌*◌, ◌^◌, ℕ, pos, IfNone, Option, Some, None}
-use Rattle.sqlite_value.specs.declared.value.Value.{Value}
-use Rattle.sqlite.specs.declared.types.Value.TheVariants.{Int}
+use Rattle.gm_rows.proofs.Common.{◌≡◌, ◌<◌, ◌*◌, ◌^◌, ℕ, pos, IfNone, Option, Some, None, Value, Int}
 use Rattle.gm_rows.proofs.read_column.sectors_at.Goals as goal
 
 no_sectors : (o : Option ℕ) (value : Value) (bytes : ℕ) → value ≡ Int (pos bytes)

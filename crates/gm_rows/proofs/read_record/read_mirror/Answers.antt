@@ -1,12 +1,4 @@
-use Rattle.std.proofs.Common.{◌≡◌, pos, Option, Some, None, IfNone, ap}
-use Rattle.sqlite.specs.Order.{Row, column}
-use Rattle.sqlite.specs.declared.types.Value.TheVariants.{Int}
-use Rattle.gm_metadata.specs.Flags.{mirror_bits}
-use Rattle.gm_metadata.specs.declared.flags.MirrorFlags.{MirrorFlags}
-use Rattle.gm_state.specs.declared.records.Mirror.{Mirror}
-use Rattle.gm_state.specs.Rows.{mirror_row}
-use Rattle.gm_rows.specs.Rows.{mirror_values}
-use Rattle.gm_rows.specs.Values.{columns_at, nine, IsMirrorValue}
+use Rattle.gm_rows.proofs.Common.{◌≡◌, pos, Option, Some, None, IfNone, ap, Row, column, Int, mirror_bits, MirrorFlags, Mirror, mirror_row, mirror_values, columns_at, nine, IsMirrorValue}
 use Rattle.gm_rows.proofs.read_record.read_mirror.Goals as goal
 
 always : {A : Type 0} (o : Option A) (P : Type 0) → P → IfNone o P

@@ -1,9 +1,5 @@
-use Rattle.std.proofs.Common.{◌≡◌, ◌∙◌, sym, ap, subst, subst₂, map, List, true, false}
-use Rattle.sqlite.specs.Order.{Row}
-use Rattle.gm_rows.specs.Values.{columns_at, six, IsIntentValue}
+use Rattle.gm_rows.proofs.Common.{◌≡◌, ◌∙◌, sym, ap, subst, subst₂, map, List, true, false, Row, columns_at, six, IsIntentValue, AreReadable, SayState, ArePatches}
 use Rattle.std.proofs.Math.Path.{subst₃}
-use Rattle.gm_state.specs.Readable.{AreReadable}
-use Rattle.gm_rows.specs.Says.{SayState, ArePatches}
 use Rattle.gm_rows.proofs.ReorderedValues.{all_each}
 use Rattle.gm_rows.proofs.TypedRecords.{intent_value}
 use Rattle.gm_rows.proofs.RowsSayRecords.{one_blob, one_list, passed_on}

@@ -1,11 +1,4 @@
-use Rattle.std.proofs.Common.{◌≡◌, ◌≢◌, ◌∙◌, ◌==◌, ℕ, List, [], ◌∷◌, true, false, length, get_or, sym, ap, arith, eqb-true}
-use Rattle.sqlite.specs.Order.{Row, column}
-use Rattle.sqlite.specs.declared.types.Value.TheVariants.{Blob}
-use Rattle.gm_state.specs.Rows.{joined}
-use Rattle.gm_state.proofs.SameRows.{same_joined}
-use Rattle.gm_state.specs.Readable.{AreSectors}
-use Rattle.gm_rows.specs.Says.{ArePatches}
-use Rattle.gm_rows.specs.Values.{shown_patch}
+use Rattle.gm_rows.proofs.Common.{◌≡◌, ◌≢◌, ◌∙◌, ◌==◌, ℕ, List, [], ◌∷◌, true, false, length, get_or, sym, ap, arith, eqb-true, Row, column, Blob, joined, same_joined, AreSectors, ArePatches, shown_patch}
 use Rattle.gm_rows.proofs.RowsSayRecords.{blob_in, passed_on}
 use Rattle.gm_rows.proofs.said_state.read_patches.Goals as goal
 

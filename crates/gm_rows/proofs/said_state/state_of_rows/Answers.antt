@@ -1,6 +1,4 @@
-use Rattle.std.proofs.Common.{◌∙◌, sym}
-use Rattle.gm_rows.specs.Says.{mirror_shown, component_shown}
-use Rattle.gm_rows.specs.Values.{IsMirrorValue, IsComponentValue}
+use Rattle.gm_rows.proofs.Common.{◌∙◌, sym, mirror_shown, component_shown, IsMirrorValue, IsComponentValue}
 use Rattle.gm_rows.proofs.TypedRecords.{mirror_value, component_value}
 use Rattle.gm_rows.proofs.RowsSayRecords.{one_mirror, one_component, says_these, none_said, read_said, passed_on}
 use Rattle.gm_state.proofs.MadeState.{same_state}

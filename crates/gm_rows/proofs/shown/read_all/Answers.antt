@@ -1,6 +1,5 @@
-use Rattle.std.proofs.Common.{◌≡◌, ◌∙◌, ◌+◌, ◌++◌, ◌∷◌, [], List, Bool, true, false, if◌then◌else◌, sym, ap, length, length-append}
+use Rattle.gm_rows.proofs.Common.{◌≡◌, ◌∙◌, ◌+◌, ◌++◌, ◌∷◌, [], List, Bool, true, false, if◌then◌else◌, sym, ap, length, length-append, columns_at, numbered}
 use Rattle.std.specs.Result.{is_ok}
-use Rattle.gm_rows.specs.Values.{columns_at, numbered}
 use Rattle.gm_rows.proofs.NumberedRows.{read_one, reads_none}
 use Rattle.gm_rows.proofs.shown.read_all.Goals as goal
 

@@ -1,5 +1,4 @@
-use Rattle.std.proofs.Common.{◌≡◌, map, take, length}
-use Rattle.gm_rows.specs.Values.{columns_at, numbered}
+use Rattle.gm_rows.proofs.Common.{◌≡◌, map, take, length, columns_at, numbered}
 use Rattle.gm_rows.proofs.shown.read_all.Given as goal
 
 abbrev pub invariant-rows : goal.invariant-rows

@@ -1,4 +1,4 @@
-use Rattle.std.proofs.Common.{◌<◌, length, refl, sym, rules}
+use Rattle.gm_shelf.proofs.Common.{◌<◌, length, refl, sym, rules}
 use Rattle.std.specs.Vec.{with_item}
 use Rattle.gm_shelf.proofs.OneSector.{sizes_stay, one_changes}
 use Rattle.gm_shelf.proofs.contents.put_in.Goals as goal

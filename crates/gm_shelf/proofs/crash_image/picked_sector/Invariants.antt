@@ -1,5 +1,4 @@
-use Rattle.std.proofs.Common.{◌≤◌, reverse, take}
-use Rattle.gm_shelf.specs.Walks.{IsWalked}
+use Rattle.gm_shelf.proofs.Common.{◌≤◌, reverse, take, IsWalked}
 use Rattle.gm_shelf.proofs.crash_image.picked_sector.Given as goal
 
 abbrev pub invariant-loop-event : goal.invariant-loop-event

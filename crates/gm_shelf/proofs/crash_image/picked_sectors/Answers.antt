@@ -1,7 +1,4 @@
-use Rattle.std.proofs.Common.{◌≡◌, ◌<◌, ◌+◌, ℕ, List, Option, length, min, reverse, rules, arith, sym, subst, ap, ◌∙◌}
-use Rattle.std.specs.Prelude.{IsSomeAnd}
-use Rattle.gm_shelf.specs.History.{sector_at, size_after, synced_after, written_after}
-use Rattle.gm_shelf.specs.Picks.{pick_at, is_unsynced, unsynced_below, picked_after, picked_value}
+use Rattle.gm_shelf.proofs.Common.{◌≡◌, ◌<◌, ◌+◌, ℕ, List, Option, length, min, reverse, rules, arith, sym, subst, ap, ◌∙◌, IsSomeAnd, sector_at, size_after, synced_after, written_after, pick_at, is_unsynced, unsynced_below, picked_after, picked_value}
 use Rattle.gm_shelf.proofs.OneMorePick.{pick_at_taken, taken_more, pushed_sectors}
 use Rattle.gm_shelf.proofs.crash_image.picked_sectors.Goals as goal
 

@@ -1,6 +1,4 @@
-use Rattle.std.proofs.Common.{◌≡◌, ◌<◌, ◌+◌, ℕ, length, min, reverse, vec_len}
-use Rattle.gm_shelf.specs.History.{sector_at}
-use Rattle.gm_shelf.specs.Picks.{unsynced_below, picked_after}
+use Rattle.gm_shelf.proofs.Common.{◌≡◌, ◌<◌, ◌+◌, ℕ, length, min, reverse, vec_len, sector_at, unsynced_below, picked_after}
 use Rattle.gm_shelf.proofs.crash_image.picked_sectors.Given as goal
 
 abbrev pub invariant-loop-place : goal.invariant-loop-place

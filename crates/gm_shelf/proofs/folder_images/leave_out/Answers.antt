@@ -1,7 +1,4 @@
-use Rattle.std.proofs.Common.{rules}
-use Rattle.std.specs.Prelude.{not}
-use Rattle.std.proofs.lemmas.Map.Made.{filter_same_pairs}
-use Rattle.gm_shelf.specs.Folder.{is_one_of}
+use Rattle.gm_shelf.proofs.Common.{rules, not, filter_same_pairs, is_one_of}
 use Rattle.gm_shelf.proofs.folder_images.leave_out.Goals as goal
 
 pub returns : goal.returns

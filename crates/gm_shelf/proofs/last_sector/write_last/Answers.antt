@@ -1,4 +1,4 @@
-use Rattle.std.proofs.Common.{◌≡◌, ◌+◌, ◌-◌, arith, rules}
+use Rattle.gm_shelf.proofs.Common.{◌≡◌, ◌+◌, ◌-◌, arith, rules}
 use Rattle.gm_shelf.proofs.LastWrite.{last_done}
 use Rattle.gm_shelf.proofs.last_sector.write_last.Goals as goal
 

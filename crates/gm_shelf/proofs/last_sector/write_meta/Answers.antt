@@ -1,5 +1,4 @@
-use Rattle.std.proofs.Common.{ℕ, List, subst}
-use Rattle.gm_shelf.specs.LastSector.{WritesLast}
+use Rattle.gm_shelf.proofs.Common.{ℕ, List, subst, WritesLast}
 use Rattle.gm_shelf.proofs.last_sector.write_meta.Goals as goal
 
 pub returns : goal.returns

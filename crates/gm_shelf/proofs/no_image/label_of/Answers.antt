@@ -1,6 +1,4 @@
-use Rattle.std.proofs.Common.{rules, ◌≡◌, ◌≤◌, false, refl, length}
-use Rattle.std.proofs.lemmas.Bool.{false_from_ne_true}
-use Rattle.gm_metadata.specs.Labels.{is_label}
+use Rattle.gm_shelf.proofs.Common.{rules, ◌≡◌, ◌≤◌, false, refl, length, false_from_ne_true, is_label}
 use Rattle.gm_metadata.proofs.Labels.{label_is_text}
 use Rattle.gm_shelf.proofs.no_image.label_of.Goals as goal
 

@@ -1,6 +1,5 @@
-use Rattle.std.proofs.Common.{◌≡◌, ◌++◌, map, take}
+use Rattle.gm_shelf.proofs.Common.{◌≡◌, ◌++◌, map, take, visible}
 use Rattle.std.specs.String.{string_bytes}
-use Rattle.gm_shelf.specs.Entries.{visible}
 use Rattle.gm_shelf.proofs.passed_over.push_shown.Given as goal
 
 abbrev pub invariant-loop-byte : goal.invariant-loop-byte

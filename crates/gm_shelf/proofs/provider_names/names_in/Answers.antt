@@ -1,8 +1,4 @@
-use Rattle.std.proofs.Common.{◌≡◌, List, ℕ, is_some, subst}
-use Rattle.std.specs.Ordering.{nat_cmp, eq_by_cmp}
-use Rattle.std.specs.Cmp.Lexicographic.{slice_cmp}
-use Rattle.std.specs.BTreeMap.{get}
-use Rattle.std.specs.Set.{is_member}
+use Rattle.gm_shelf.proofs.Common.{◌≡◌, List, ℕ, is_some, subst, nat_cmp, eq_by_cmp, slice_cmp, get, is_member}
 use Rattle.gm_shelf.proofs.provider_names.names_in.Goals as goal
 
 pub returns-clause-found : goal.returns-clause-found

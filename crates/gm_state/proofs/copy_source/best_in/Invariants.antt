@@ -1,5 +1,4 @@
-use Rattle.std.proofs.Common.{◌≡◌, drop, None}
-use Rattle.gm_state.specs.BestSource.{best_of}
+use Rattle.gm_state.proofs.Common.{◌≡◌, drop, None, best_of}
 use Rattle.gm_state.proofs.copy_source.best_in.Given as goal
 
 abbrev pub invariant-loop-k : goal.invariant-loop-k

@@ -1,5 +1,4 @@
-use Rattle.std.proofs.Common.{rules, ◌∙◌, sym, ap, option_map}
-use Rattle.gm_state.specs.declared.records.Component.{Component}
+use Rattle.gm_state.proofs.Common.{rules, ◌∙◌, sym, ap, option_map, Component}
 use Rattle.gm_state.proofs.FoundSource.{source_some, source_value}
 use Rattle.gm_state.proofs.copy_source.source.Goals as goal
 

@@ -1,5 +1,4 @@
-use Rattle.std.proofs.Common.{drop}
-use Rattle.gm_state.specs.Readable.{IsReadable}
+use Rattle.gm_state.proofs.Common.{drop, IsReadable}
 use Rattle.gm_state.proofs.Suffixes.{Each}
 use Rattle.gm_state.proofs.readable_intents.are_each_readable.Given as goal
 

@@ -1,5 +1,4 @@
-use Rattle.std.proofs.Common.{◌≡◌, ◌∙◌, ◌==◌, ℕ, List, [], ◌∷◌, length, true, sym, refl, ap, arith, eqb-true}
-use Rattle.gm_lists.proofs.Finding.{not_both}
+use Rattle.gm_state.proofs.Common.{◌≡◌, ◌∙◌, ◌==◌, ℕ, List, [], ◌∷◌, length, true, sym, refl, ap, arith, eqb-true, not_both}
 use Rattle.gm_state.proofs.PatchFound.{from_first, no_copy, of_range, without_patch, none_found}
 use Rattle.gm_state.proofs.readable_intents.are_of_one_patch.Goals as goal
 

@@ -1,5 +1,4 @@
-use Rattle.std.proofs.Common.{drop}
-use Rattle.gm_state.specs.Readable.{IsOfRange}
+use Rattle.gm_state.proofs.Common.{drop, IsOfRange}
 use Rattle.gm_state.proofs.Suffixes.{Each}
 use Rattle.gm_state.proofs.readable_intents.are_of_range.Given as goal
 

@@ -1,5 +1,4 @@
-use Rattle.std.proofs.Common.{take, drop}
-use Rattle.gm_state.specs.Readable.{AreOrdered, AreOrderedFrom}
+use Rattle.gm_state.proofs.Common.{take, drop, AreOrdered, AreOrderedFrom}
 use Rattle.gm_state.proofs.readable_intents.are_ordered.Given as goal
 
 -- the order is that of the intents that are left, after those that were seen

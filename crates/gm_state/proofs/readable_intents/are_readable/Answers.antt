@@ -1,5 +1,4 @@
-use Rattle.std.proofs.Common.{rules}
-use Rattle.gm_state.specs.Readable.{AreSectors}
+use Rattle.gm_state.proofs.Common.{rules, AreSectors}
 use Rattle.gm_state.proofs.PatchFound.{are_sectors}
 use Rattle.gm_state.proofs.readable_intents.are_readable.Goals as goal
 

@@ -1,4 +1,4 @@
-use Rattle.std.proofs.Common.{◌≡◌, ◌∙◌, sym, false, true}
+use Rattle.gm_state.proofs.Common.{◌≡◌, ◌∙◌, sym, false, true}
 use Rattle.gm_state.proofs.CopyFound.{no_source, no_target, no_mirror, lent, copy_is}
 use Rattle.gm_state.proofs.readable_intents.is_copy_within.Goals as goal
 

@@ -1,4 +1,4 @@
-use Rattle.std.proofs.Common.{◌≡◌, ◌∙◌, sym, false, true}
+use Rattle.gm_state.proofs.Common.{◌≡◌, ◌∙◌, sym, false, true}
 use Rattle.gm_state.proofs.PatchFound.{no_component, no_mirror, taken, patch_is}
 use Rattle.gm_state.proofs.readable_intents.is_patch_within.Goals as goal
 

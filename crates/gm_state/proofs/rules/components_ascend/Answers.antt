@@ -1,9 +1,4 @@
-use Rattle.std.proofs.lemmas.List.Sorted.{answers_always}
-use Rattle.std.proofs.Common.{rules}
-use Rattle.gm_state.specs.declared.records.Component.{Component}
-use Rattle.gm_lists.specs.Ordered.{label_lt}
-use Rattle.gm_state.specs.Records.{provider}
-use Rattle.gm_lists.proofs.Sorting.{neighbours_answer}
+use Rattle.gm_state.proofs.Common.{answers_always, rules, Component, label_lt, provider, neighbours_answer}
 use Rattle.gm_state.proofs.rules.components_ascend.Goals as goal
 
 pub returns : goal.returns

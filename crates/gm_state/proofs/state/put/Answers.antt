@@ -1,7 +1,4 @@
-use Rattle.std.proofs.Common.{rules, ◌∙◌, sym, ap, ℕ}
-use Rattle.std.specs.List.{insert}
-use Rattle.gm_state.specs.Records.{provider}
-use Rattle.gm_lists.proofs.Putting.{put_insert}
+use Rattle.gm_state.proofs.Common.{rules, ◌∙◌, sym, ap, ℕ, insert, provider, put_insert}
 use Rattle.gm_state.proofs.state.put.Goals as goal
 
 pub returns-clause-ok : goal.returns-clause-ok

@@ -1,7 +1,5 @@
-use Rattle.std.proofs.Common.{rules, arith, ◌≡◌, refl, length}
+use Rattle.gm_sync.proofs.Common.{rules, arith, ◌≡◌, refl, length, registry_of, shelf_of, DiskKept}
 use Rattle.gm_state.proofs.Suffixes.{none_left}
-use Rattle.gm_bench.specs.Benches.{registry_of, shelf_of}
-use Rattle.gm_registry.specs.Registry.{DiskKept}
 use Rattle.gm_sync.proofs.Faults.{fails_then, look_fails, memory_fails, store_of_records, told}
 use Rattle.gm_sync.proofs.Filled.{fills_looked, fills_none, look_keeps, look_none, look_then}
 use Rattle.gm_sync.proofs.Passing.{passed_none, passed_told}

@@ -1,8 +1,4 @@
-use Rattle.std.proofs.Common.{arith, rules}
-use Rattle.gm_bench.specs.Benches.{registry_of}
-use Rattle.gm_registry.specs.Registry.{DiskKept}
-use Rattle.gm_sync.specs.Filling.{IsAdvanceIn, IsWhole}
-use Rattle.gm_sync.specs.Scopes.{but}
+use Rattle.gm_sync.proofs.Common.{arith, rules, registry_of, DiskKept, IsAdvanceIn, IsWhole, but}
 use Rattle.gm_sync.proofs.Ended.{whole_too}
 use Rattle.gm_sync.proofs.Faults.{by_audit, fails_then, told}
 use Rattle.gm_sync.proofs.Filled.{fills_look, fills_then, whole_behind}

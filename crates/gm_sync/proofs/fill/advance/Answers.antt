@@ -1,7 +1,4 @@
-use Rattle.std.proofs.Common.{refl, ap, Err, rules}
-use Rattle.gm_bench.proofs.Phases.{carried_open}
-use Rattle.gm_bench.proofs.Standing.{carried_records, carried_so, carried_tables, else_none}
-use Rattle.gm_sync.specs.Filling.{IsAdvanceOf}
+use Rattle.gm_sync.proofs.Common.{refl, ap, Err, rules, carried_open, carried_records, carried_so, carried_tables, else_none, IsAdvanceOf}
 use Rattle.gm_sync.proofs.FilledOn.{fills_on_next, memory_fails_on, told_on}
 use Rattle.gm_sync.proofs.fill.advance.Goals as goal
 

@@ -1,8 +1,4 @@
-use Rattle.std.proofs.Common.{◌≡◌, None, refl, arith, rules}
-use Rattle.gm_bench.specs.Benches.{registry_of}
-use Rattle.gm_registry.specs.Registry.{DiskKept}
-use Rattle.gm_sync.specs.Filling.{IsAdvanceIn}
-use Rattle.gm_sync.specs.Scopes.{next_of}
+use Rattle.gm_sync.proofs.Common.{◌≡◌, None, refl, arith, rules, registry_of, DiskKept, IsAdvanceIn, next_of}
 use Rattle.gm_sync.proofs.Faults.{fails_then, look_fails, store_of_records, told}
 use Rattle.gm_sync.proofs.Filled.{fills_looked, fills_none, fills_then, filled_look, look_keeps, tables_at_rest}
 use Rattle.gm_sync.proofs.Still.{still_looked, still_none, still_shown}

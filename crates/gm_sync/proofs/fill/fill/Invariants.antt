@@ -1,6 +1,4 @@
-use Rattle.gm_bench.specs.Benches.{progress_of}
-use Rattle.gm_bench.specs.Phases.{TakesCommands}
-use Rattle.gm_sync.specs.Filling.{Fills, IsAdvanceIn, IsStill}
+use Rattle.gm_sync.proofs.Common.{progress_of, TakesCommands, Fills, IsAdvanceIn, IsStill}
 use Rattle.gm_sync.proofs.fill.fill.Given as goal
 
 -- the bench may be asked, and was only filled, and that only if something was to be filled

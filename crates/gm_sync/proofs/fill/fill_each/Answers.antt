@@ -1,6 +1,4 @@
-use Rattle.std.proofs.Common.{◌≡◌, ◌∙◌, true, sym, rules}
-use Rattle.gm_sync.specs.Filling.{IsAdvanceIn}
-use Rattle.gm_sync.specs.Scopes.{is_next}
+use Rattle.gm_sync.proofs.Common.{◌≡◌, ◌∙◌, true, sym, rules, IsAdvanceIn, is_next}
 use Rattle.gm_sync.proofs.Faults.{fails_then, told}
 use Rattle.gm_sync.proofs.Filled.{fills_none, fills_then}
 use Rattle.gm_sync.proofs.Next.{fills_next}

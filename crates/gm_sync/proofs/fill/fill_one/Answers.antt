@@ -1,6 +1,4 @@
-use Rattle.std.proofs.Common.{rules, ◌≡◌, ◌∙◌, Err, sym, ap}
-use Rattle.gm_bench.specs.declared.phase.Progress.TheVariants.{Failed, Ready}
-use Rattle.gm_sync.specs.Filling.{IsAdvanceOf}
+use Rattle.gm_sync.proofs.Common.{rules, ◌≡◌, ◌∙◌, Err, sym, ap, Failed, Ready, IsAdvanceOf}
 use Rattle.gm_sync.proofs.Faults.{told}
 use Rattle.gm_sync.proofs.FilledOn.{fails_from_rest, fails_settled, fills_settled, settling_fails}
 use Rattle.gm_sync.proofs.fill.fill_one.Goals as goal

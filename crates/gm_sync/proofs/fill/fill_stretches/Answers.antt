@@ -1,5 +1,4 @@
-use Rattle.std.proofs.Common.{rules}
-use Rattle.gm_sync.specs.Filling.{IsAdvanceOf}
+use Rattle.gm_sync.proofs.Common.{rules, IsAdvanceOf}
 use Rattle.gm_sync.proofs.FilledOn.{fails_on_then, fills_on_none, fills_on_then, told_on}
 use Rattle.gm_sync.proofs.fill.fill_stretches.Goals as goal
 

@@ -1,6 +1,4 @@
-use Rattle.gm_bench.specs.Benches.{progress_of}
-use Rattle.gm_bench.specs.Phases.{TakesNext}
-use Rattle.gm_sync.specs.Filling.{FillsOn, IsAdvanceOf}
+use Rattle.gm_sync.proofs.Common.{progress_of, TakesNext, FillsOn, IsAdvanceOf}
 use Rattle.gm_sync.proofs.fill.fill_stretches.Given as goal
 
 -- the bench may be asked, and was only filled

@@ -1,5 +1,4 @@
-use Rattle.std.proofs.Common.{◌≡◌, true, drop}
-use Rattle.gm_taste.specs.Tasting.{raised, genid_in}
+use Rattle.gm_taste.proofs.Common.{◌≡◌, true, drop, raised, genid_in}
 use Rattle.gm_taste.proofs.groups.genid_in.Given as goal
 
 abbrev pub invariant-loop-t : goal.invariant-loop-t

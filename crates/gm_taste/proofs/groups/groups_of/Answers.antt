@@ -1,7 +1,4 @@
-use Rattle.std.proofs.Common.{rules, arith, subst, List, take}
-use Rattle.std.proofs.lemmas.List.Sorted.{answers_always}
-use Rattle.gm_taste.specs.declared.groups.Taken.{Taken}
-use Rattle.gm_taste.specs.Tasting.{key_in, Made}
+use Rattle.gm_taste.proofs.Common.{rules, arith, subst, List, take, answers_always, Taken, key_in, Made}
 use Rattle.gm_taste.proofs.Grouping.{so_begun, so_more, run_some, so_ended}
 use Rattle.gm_taste.proofs.groups.groups_of.Goals as goal
 

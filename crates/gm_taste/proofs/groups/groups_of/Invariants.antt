@@ -1,4 +1,4 @@
-use Rattle.std.proofs.Common.{length}
+use Rattle.gm_taste.proofs.Common.{length}
 use Rattle.gm_taste.proofs.Grouping.{SoFar}
 use Rattle.gm_taste.proofs.groups.groups_of.Given as goal
 

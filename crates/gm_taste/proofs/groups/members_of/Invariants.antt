@@ -1,5 +1,4 @@
-use Rattle.std.proofs.Common.{◌≡◌, take, map}
-use Rattle.gm_taste.specs.Tasting.{member}
+use Rattle.gm_taste.proofs.Common.{◌≡◌, take, map, member}
 use Rattle.gm_taste.proofs.groups.members_of.Given as goal
 
 abbrev pub invariant-loop-t : goal.invariant-loop-t

@@ -1,5 +1,4 @@
-use Rattle.std.proofs.Common.{◌≡◌, ◌==◌, drop}
-use Rattle.gm_taste.specs.Tasting.{raised, syncid_in}
+use Rattle.gm_taste.proofs.Common.{◌≡◌, ◌==◌, drop, raised, syncid_in}
 use Rattle.gm_taste.proofs.groups.syncid_in.Given as goal
 
 abbrev pub invariant-loop-t : goal.invariant-loop-t

@@ -1,5 +1,4 @@
-use Rattle.std.proofs.Common.{◌≡◌, drop, None}
-use Rattle.gm_taste.specs.Sources.{first_from}
+use Rattle.gm_taste.proofs.Common.{◌≡◌, drop, None, first_from}
 use Rattle.gm_taste.proofs.sources.first_in.Given as goal
 
 abbrev pub invariant-loop-member : goal.invariant-loop-member

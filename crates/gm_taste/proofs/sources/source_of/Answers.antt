@@ -1,6 +1,4 @@
-use Rattle.std.proofs.Common.{◌≡◌, ◌∙◌, rules, ap, option_map, None}
-use Rattle.gm_taste.specs.declared.tasted.Member.{Member}
-use Rattle.gm_taste.specs.Sources.{first_from}
+use Rattle.gm_taste.proofs.Common.{◌≡◌, ◌∙◌, rules, ap, option_map, None, Member, first_from}
 use Rattle.gm_taste.proofs.ChosenSource.{first_of_all}
 use Rattle.gm_taste.proofs.sources.source_of.Goals as goal
 

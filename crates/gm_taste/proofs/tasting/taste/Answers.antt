@@ -1,10 +1,4 @@
-use Rattle.std.proofs.Common.{rules, ◌≡◌, ◌∙◌, ap, subst, List}
-use Rattle.std.proofs.lemmas.List.Sorted.{answers_always}
-use Rattle.std.specs.List.{filter_map}
-use Rattle.std.specs.List.Sorted.{IsPermutation}
-use Rattle.gm_taste.specs.declared.provider.Provider.{Provider}
-use Rattle.gm_taste.specs.declared.groups.Taken.{Taken}
-use Rattle.gm_taste.specs.Tasting.{taken_by, left_by, Grouped}
+use Rattle.gm_taste.proofs.Common.{rules, ◌≡◌, ◌∙◌, ap, subst, List, answers_always, filter_map, IsPermutation, Provider, Taken, taken_by, left_by, Grouped}
 use Rattle.gm_taste.proofs.Outcome.{tasted}
 use Rattle.gm_taste.proofs.tasting.taste.Goals as goal
 

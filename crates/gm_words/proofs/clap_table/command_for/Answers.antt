@@ -1,7 +1,5 @@
-use Rattle.std.proofs.Common.{◌∙◌, List, sym, subst}
-use Rattle.clap.specs.Walk.{Text}
+use Rattle.gm_words.proofs.Common.{◌∙◌, List, sym, subst, Text, ReadsAlike}
 use Rattle.clap.specs.Words.{App}
-use Rattle.gm_words.specs.Alike.{ReadsAlike}
 use Rattle.gm_words.proofs.OneCommand.{alike_label, alike_insert, alike_remove, alike_deactivate, alike_activate, alike_forget, alike_rebuild, alike_configure, alike_clear, alike_destroy, alike_lost, alike_advance, alike_adopt, alike_patch, found_alike, more, none}
 use Rattle.gm_words.proofs.clap_table.command_for.Goals as goal
 

@@ -1,6 +1,4 @@
-use Rattle.std.proofs.Common.{ap₂, ◌∙◌}
-use Rattle.clap.specs.Words.{with_rule}
-use Rattle.gm_words.specs.Kinds.{with_word}
+use Rattle.gm_words.proofs.Common.{ap₂, ◌∙◌, with_rule, with_word}
 use Rattle.gm_words.proofs.Folding.{fold_more}
 use Rattle.gm_words.proofs.clap_table.command_with.Goals as goal
 

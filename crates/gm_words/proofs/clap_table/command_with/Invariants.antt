@@ -1,7 +1,4 @@
-use Rattle.std.proofs.Common.{◌≡◌, false, take}
-use Rattle.clap.specs.Words.{app_of, new_app}
-use Rattle.clap.specs.declared.builder.command.Command.TheViews.{out-Command}
-use Rattle.gm_words.specs.Kinds.{with_words}
+use Rattle.gm_words.proofs.Common.{◌≡◌, false, take, app_of, new_app, out-Command, with_words}
 use Rattle.gm_words.proofs.clap_table.command_with.Given as goal
 
 abbrev pub invariant-loop-more : goal.invariant-loop-more

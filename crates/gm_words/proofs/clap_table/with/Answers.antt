@@ -1,8 +1,4 @@
-use Rattle.std.proofs.Common.{◌∙◌, ap}
-use Rattle.std.proofs.lemmas.Result.{IfOk-weaker}
-use Rattle.std.specs.Prelude.{◌||◌, Bool}
-use Rattle.std.proofs.Math.Bool.{or-false}
-use Rattle.clap.specs.declared.builder.command.Command.TheViews.{out-Command}
+use Rattle.gm_words.proofs.Common.{◌∙◌, ap, IfOk-weaker, ◌||◌, Bool, or-false, out-Command}
 use Rattle.gm_words.proofs.clap_table.with.Goals as goal
 
 pub returns-clause-app : goal.returns-clause-app

@@ -1,4 +1,4 @@
-use Rattle.std.proofs.lemmas.Result.{IfOk-weaker}
+use Rattle.gm_words.proofs.Common.{IfOk-weaker}
 use Rattle.gm_words.proofs.clap_table.with_command.Goals as goal
 
 pub returns : goal.returns

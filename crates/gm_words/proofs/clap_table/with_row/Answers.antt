@@ -1,6 +1,5 @@
-use Rattle.std.proofs.Common.{◌∙◌, ap}
-use Rattle.std.proofs.lemmas.Result.{IfOk-weaker}
-use Rattle.clap.specs.Words.{App, app_of, with_subcommand}
+use Rattle.gm_words.proofs.Common.{◌∙◌, ap, IfOk-weaker, app_of, with_subcommand}
+use Rattle.clap.specs.Words.{App}
 use Rattle.gm_words.proofs.clap_table.with_row.Goals as goal
 
 pub returns : goal.returns

@@ -1,4 +1,4 @@
-use Rattle.gm_words.specs.Kinds.{with_row}
+use Rattle.gm_words.proofs.Common.{with_row}
 use Rattle.gm_words.proofs.Folding.{fold_next}
 use Rattle.gm_words.proofs.clap_table.with_rows.Goals as goal
 

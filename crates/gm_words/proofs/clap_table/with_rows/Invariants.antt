@@ -1,6 +1,4 @@
-use Rattle.std.proofs.Common.{◌≡◌, take}
-use Rattle.clap.specs.Words.{app_of}
-use Rattle.gm_words.specs.Kinds.{with_rows}
+use Rattle.gm_words.proofs.Common.{◌≡◌, take, app_of, with_rows}
 use Rattle.gm_words.proofs.clap_table.with_rows.Given as goal
 
 abbrev pub invariant-loop-row : goal.invariant-loop-row

@@ -1,6 +1,4 @@
-use Rattle.std.proofs.Common.{◌∙◌, ap, sym, Some}
-use Rattle.std.specs.Prelude.{option_map}
-use Rattle.gm_words.specs.Spelling.{balance_in, if_given}
+use Rattle.gm_words.proofs.Common.{◌∙◌, ap, sym, Some, option_map, balance_in, if_given}
 use Rattle.gm_words.proofs.command_words.given_balance.Goals as goal
 
 pub returns-in_err-balance-in-Some : goal.returns-in_err-balance-in-Some

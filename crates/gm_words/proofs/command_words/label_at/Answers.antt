@@ -1,5 +1,4 @@
-use Rattle.std.proofs.Common.{◌∙◌, ap, sym}
-use Rattle.std.specs.Prelude.{option_and_then}
+use Rattle.gm_words.proofs.Common.{◌∙◌, ap, sym, option_and_then}
 use Rattle.gm_words.specs.Spelling.{label_at, label_in}
 use Rattle.gm_words.proofs.command_words.label_at.Goals as goal
 

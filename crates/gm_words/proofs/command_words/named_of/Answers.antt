@@ -1,10 +1,5 @@
 -- For each word: which command it is, and that it is one if its names are found.
-use Rattle.std.proofs.Common.{◌≡◌, ◌∙◌, List, Option, ap, refl, rules, sym}
-use Rattle.std.specs.Prelude.{option_map}
-use Rattle.clap.specs.Walk.{Row, Text}
-use Rattle.gm_commands.specs.declared.command.Command.{Command}
-use Rattle.gm_commands.specs.declared.command.Command.TheVariants.{Remove, Deactivate, Activate, Forget, Rebuild, Clear, Destroy, Advance}
-use Rattle.gm_words.specs.declared.command_words.ComponentNames.{ComponentNames}
+use Rattle.gm_words.proofs.Common.{◌≡◌, ◌∙◌, List, Option, ap, refl, rules, sym, option_map, Row, Text, Command, Remove, Deactivate, Activate, Forget, Rebuild, Clear, Destroy, Advance, ComponentNames}
 use Rattle.gm_words.specs.Spelling.{named_of}
 use Rattle.gm_words.proofs.command_words.named_of.Goals as goal
 

@@ -1,7 +1,5 @@
-use Rattle.std.proofs.Common.{◌≡◌, ◌∙◌, ap, subst, sym, true}
-use Rattle.std.proofs.lemmas.Result.{IfOk-weaker}
-use Rattle.clap.specs.Walk.{texts}
-use Rattle.clap.specs.Words.{App, FailsBy, fault_of, is_simple, is_simple_and_free, subcommand_of}
+use Rattle.gm_words.proofs.Common.{◌≡◌, ◌∙◌, ap, subst, sym, true, IfOk-weaker, texts, FailsBy, fault_of, is_simple, is_simple_and_free, subcommand_of}
+use Rattle.clap.specs.Words.{App}
 use Rattle.gm_words.proofs.ParsedTable.{none_at_ok, some_at_err, table_is_free, table_is_simple}
 use Rattle.gm_words.proofs.command_words.parsed.Goals as goal
 

@@ -1,4 +1,4 @@
-use Rattle.std.proofs.Common.{◌∙◌}
+use Rattle.gm_words.proofs.Common.{◌∙◌}
 use Rattle.gm_words.proofs.ReadValues.{parsed_below}
 use Rattle.gm_words.proofs.command_words.priority.Goals as goal
 

@@ -1,8 +1,4 @@
-use Rattle.std.proofs.Common.{◌≡◌, take}
-use Rattle.std.specs.Prelude.{IsTrue}
-use Rattle.std.specs.List.{list_all}
-use Rattle.clap.specs.Walk.{texts}
-use Rattle.gm_metadata.specs.Labels.{is_label}
+use Rattle.gm_words.proofs.Common.{◌≡◌, take, IsTrue, list_all, texts, is_label}
 use Rattle.gm_words.proofs.command_words.providers.Given as goal
 
 abbrev pub invariant-loop-text : goal.invariant-loop-text

@@ -1,8 +1,5 @@
-use Rattle.std.proofs.Common.{◌∙◌, ap, sym}
-use Rattle.std.proofs.lemmas.Result.{IfOk-weaker}
-use Rattle.clap.specs.Words.{found_of}
-use Rattle.clap.proofs.WalkLemmas.{raw_values-rows}
-use Rattle.gm_words.specs.Spelling.{◌>>=◌, providers_at, providers_in}
+use Rattle.gm_words.proofs.Common.{◌∙◌, ap, sym, IfOk-weaker, found_of, raw_values-rows, ◌>>=◌, providers_in}
+use Rattle.gm_words.specs.Spelling.{providers_at}
 use Rattle.gm_words.proofs.Several.{strs_none, strs_some}
 use Rattle.gm_words.proofs.command_words.providers_at.Goals as goal
 

@@ -1,5 +1,4 @@
-use Rattle.std.proofs.Common.{◌∙◌, sym}
-use Rattle.clap.specs.Walk.{texts}
+use Rattle.gm_words.proofs.Common.{◌∙◌, sym, texts}
 use Rattle.gm_words.proofs.ParsedTable.{answered, spelled_by, spelled_none}
 use Rattle.gm_words.proofs.command_words.read_by_table.Goals as goal
 

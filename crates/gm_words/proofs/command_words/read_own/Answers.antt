@@ -1,6 +1,4 @@
-use Rattle.std.proofs.Common.{◌∷◌, ◌∙◌, sym}
-use Rattle.clap.specs.Walk.{texts}
-use Rattle.clap.specs.Words.{app_of}
+use Rattle.gm_words.proofs.Common.{◌∷◌, ◌∙◌, sym, texts, app_of}
 use Rattle.gm_words.proofs.OneCommand.{simple_one}
 use Rattle.gm_words.proofs.ParsedTable.{answered, some_at, spelled_alone, spelled_none}
 use Rattle.gm_words.proofs.command_words.read_own.Goals as goal

@@ -1,6 +1,4 @@
-use Rattle.std.proofs.Common.{◌∙◌}
-use Rattle.clap.specs.Words.{found_of}
-use Rattle.clap.proofs.WalkLemmas.{first_value-rows}
+use Rattle.gm_words.proofs.Common.{◌∙◌, found_of, first_value-rows}
 use Rattle.gm_words.proofs.ParsedTable.{found_as}
 use Rattle.gm_words.proofs.command_words.text_at.Goals as goal
 

@@ -1,10 +1,6 @@
-use Rattle.std.proofs.Common.{◌≡◌, subst, List, ℕ, Result, Ok}
-use Rattle.std.specs.Prelude.{IfOk}
-use Rattle.std.specs.String.{string_bytes}
-use Rattle.gm_metadata.specs.Reading.{reading_of}
+use Rattle.gm_words.proofs.Common.{◌≡◌, subst, List, ℕ, Result, Ok, IfOk, string_bytes, reading_of, reading_text, text_of}
 use Rattle.gm_metadata.specs.declared.decoding.Reading.{Reading}
 use Rattle.gm_metadata.specs.declared.fault.DecodeFault.{DecodeFault}
-use Rattle.gm_words.specs.Dump.{reading_text, text_of}
 use Rattle.gm_words.proofs.dump.dump_text.Goals as goal
 
 pub returns-in-Ok : goal.returns-in-Ok

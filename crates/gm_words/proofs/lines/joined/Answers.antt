@@ -1,4 +1,4 @@
-use Rattle.std.proofs.Common.{◌≡◌, length, rules}
+use Rattle.gm_words.proofs.Common.{◌≡◌, length, rules}
 use Rattle.gm_words.proofs.JoinedNames.{joined_some}
 use Rattle.gm_words.proofs.lines.joined.Goals as goal
 

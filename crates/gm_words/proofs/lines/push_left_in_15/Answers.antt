@@ -1,5 +1,4 @@
-use Rattle.std.proofs.Common.{◌≡◌, ◌∙◌, ◌++◌, ◌-◌, ℕ, length, replicate, ap, append_assoc, arith}
-use Rattle.std.specs.String.{string_bytes}
+use Rattle.gm_words.proofs.Common.{◌≡◌, ◌∙◌, ◌++◌, ◌-◌, ℕ, length, replicate, ap, append_assoc, arith, string_bytes}
 use Rattle.gm_words.proofs.lines.push_left_in_15.Goals as goal
 
 pub returns : goal.returns

@@ -1,5 +1,4 @@
-use Rattle.std.proofs.Common.{◌≡◌, ◌++◌, ◌-◌, ◌≤◌, length, replicate}
-use Rattle.std.specs.String.{string_bytes}
+use Rattle.gm_words.proofs.Common.{◌≡◌, ◌++◌, ◌-◌, ◌≤◌, length, replicate, string_bytes}
 use Rattle.gm_words.proofs.lines.push_left_in_15.Given as goal
 
 abbrev pub invariant-loop : goal.invariant-loop

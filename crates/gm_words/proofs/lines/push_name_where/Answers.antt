@@ -1,6 +1,5 @@
-use Rattle.std.proofs.Common.{◌∙◌, ◌++◌, Bool, ap, append-nil, sym}
-use Rattle.std.proofs.lemmas.List.{map-append}
-use Rattle.gm_words.specs.Lines.{name_where, texts}
+use Rattle.gm_words.proofs.Common.{◌∙◌, ◌++◌, Bool, ap, append-nil, sym, map-append, name_where}
+use Rattle.gm_words.specs.Lines.{texts}
 use Rattle.gm_words.proofs.lines.push_name_where.Goals as goal
 
 pub returns-in_ok-push : goal.returns-in_ok-push

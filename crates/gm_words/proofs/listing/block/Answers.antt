@@ -1,6 +1,4 @@
-use Rattle.std.proofs.Common.{◌≡◌, ◌++◌, arith, rules}
-use Rattle.std.specs.String.{string_bytes}
-use Rattle.gm_words.specs.Listing.{component_lines, mirror_lines}
+use Rattle.gm_words.proofs.Common.{◌≡◌, ◌++◌, arith, rules, string_bytes, component_lines, mirror_lines}
 use Rattle.gm_words.proofs.GrownText.{grown}
 use Rattle.gm_words.proofs.listing.block.Goals as goal
 

@@ -1,10 +1,5 @@
-use Rattle.std.proofs.Common.{◌≡◌, ◌∙◌, ◌++◌, [], ◌∷◌, ℕ, List, length, map, ap, arith, rules}
-use Rattle.std.specs.String.{string_bytes}
+use Rattle.gm_words.proofs.Common.{◌≡◌, ◌∙◌, ◌++◌, [], ◌∷◌, ℕ, List, length, map, ap, arith, rules, string_bytes, Mirror, members, line, block}
 use Rattle.std.proofs.lemmas.List.{take_all}
-use Rattle.gm_state.specs.declared.records.Mirror.{Mirror}
-use Rattle.gm_state.specs.Records.{members}
-use Rattle.gm_words.specs.Lines.{line}
-use Rattle.gm_words.specs.Listing.{block}
 use Rattle.gm_words.proofs.GrownText.{joined_as, mapped_next}
 use Rattle.gm_words.proofs.JoinedNames.{blocks_some}
 use Rattle.gm_words.proofs.listing.list_text.Goals as goal

@@ -1,7 +1,4 @@
-use Rattle.std.proofs.Common.{◌≡◌, map, take}
-use Rattle.std.specs.String.{string_bytes}
-use Rattle.gm_state.specs.Records.{members}
-use Rattle.gm_words.specs.Listing.{block}
+use Rattle.gm_words.proofs.Common.{◌≡◌, map, take, string_bytes, members, block}
 use Rattle.gm_words.proofs.listing.list_text.Given as goal
 
 abbrev pub invariant-loop-mirror : goal.invariant-loop-mirror

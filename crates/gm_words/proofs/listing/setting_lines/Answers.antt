@@ -1,7 +1,5 @@
-use Rattle.std.proofs.Common.{◌∙◌, ◌*◌, ◌++◌, ap, codes}
-use Rattle.std.specs.String.{string_bytes}
-use Rattle.gm_metadata.specs.Balance.{balance_name}
-use Rattle.gm_words.specs.Lines.{field, joined, mirror_flag_names, number}
+use Rattle.gm_words.proofs.Common.{◌∙◌, ◌*◌, ◌++◌, ap, codes, string_bytes, balance_name, field, mirror_flag_names, number}
+use Rattle.gm_words.specs.Lines.{joined}
 use Rattle.gm_words.proofs.GrownText.{also}
 use Rattle.gm_words.proofs.listing.setting_lines.Goals as goal
 

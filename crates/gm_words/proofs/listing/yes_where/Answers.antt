@@ -1,5 +1,4 @@
-use Rattle.std.proofs.Common.{ap, sym}
-use Rattle.gm_words.specs.Listing.{yes_where}
+use Rattle.gm_words.proofs.Common.{ap, sym, yes_where}
 use Rattle.gm_words.proofs.listing.yes_where.Goals as goal
 
 pub returns-then-holds : goal.returns-then-holds

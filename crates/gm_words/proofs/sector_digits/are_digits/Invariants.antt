@@ -1,6 +1,4 @@
-use Rattle.std.proofs.Common.{◌≡◌, take}
-use Rattle.std.specs.List.{list_all}
-use Rattle.gm_words.specs.Digits.{is_digit}
+use Rattle.gm_words.proofs.Common.{◌≡◌, take, list_all, is_digit}
 use Rattle.gm_words.proofs.sector_digits.are_digits.Given as goal
 
 abbrev pub invariant-loop-byte : goal.invariant-loop-byte

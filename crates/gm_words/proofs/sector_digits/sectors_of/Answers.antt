@@ -1,4 +1,4 @@
-use Rattle.std.proofs.Common.{◌≡◌, ◌∙◌, ◌%◌, ap, length, rules}
+use Rattle.gm_words.proofs.Common.{◌≡◌, ◌∙◌, ◌%◌, ap, length, rules}
 use Rattle.gm_words.proofs.ReadSectors.{cut}
 use Rattle.gm_words.proofs.sector_digits.sectors_of.Goals as goal
 

@@ -1,6 +1,4 @@
-use Rattle.std.proofs.Common.{◌++◌, arith}
-use Rattle.std.specs.String.{string_bytes}
-use Rattle.gm_words.specs.Status.{component_line, mirror_line}
+use Rattle.gm_words.proofs.Common.{◌++◌, arith, string_bytes, component_line, mirror_line}
 use Rattle.gm_words.proofs.GrownText.{grown}
 use Rattle.gm_words.proofs.status.push_block.Goals as goal
 

@@ -1,6 +1,4 @@
-use Rattle.std.proofs.Common.{◌≡◌, ◌++◌, flat_map, take}
-use Rattle.std.specs.String.{string_bytes}
-use Rattle.gm_words.specs.Status.{component_line, mirror_line}
+use Rattle.gm_words.proofs.Common.{◌≡◌, ◌++◌, flat_map, take, string_bytes, component_line, mirror_line}
 use Rattle.gm_words.proofs.status.push_block.Given as goal
 
 abbrev pub invariant-loop-component : goal.invariant-loop-component

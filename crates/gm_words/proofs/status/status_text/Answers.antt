@@ -1,7 +1,4 @@
-use Rattle.std.proofs.Common.{◌≡◌, ◌∙◌, ◌++◌, ◌<◌, [], ℕ, List, get_or, length, ap, subst}
-use Rattle.std.specs.String.{string_bytes}
-use Rattle.gm_state.specs.declared.records.Mirror.{Mirror}
-use Rattle.gm_state.specs.Records.{members}
+use Rattle.gm_words.proofs.Common.{◌≡◌, ◌∙◌, ◌++◌, ◌<◌, [], ℕ, List, get_or, length, ap, subst, string_bytes, Mirror, members}
 use Rattle.gm_words.specs.Status.{block}
 use Rattle.gm_words.proofs.GrownText.{grown}
 use Rattle.gm_words.proofs.status.status_text.Goals as goal

@@ -1,6 +1,4 @@
-use Rattle.std.proofs.Common.{◌≡◌, flat_map, take}
-use Rattle.std.specs.String.{string_bytes}
-use Rattle.gm_state.specs.Records.{members}
+use Rattle.gm_words.proofs.Common.{◌≡◌, flat_map, take, string_bytes, members}
 use Rattle.gm_words.specs.Status.{block}
 use Rattle.gm_words.proofs.status.status_text.Given as goal
 

@@ -1,6 +1,4 @@
-use Rattle.std.proofs.Common.{[]}
-use Rattle.std.specs.String.{string_bytes}
-use Rattle.gm_words.specs.Tasting.{group_block}
+use Rattle.gm_words.proofs.Common.{[], string_bytes, group_block}
 use Rattle.gm_words.proofs.GrownText.{grown}
 use Rattle.gm_words.proofs.tasted.groups_text.Goals as goal
 

@@ -1,7 +1,5 @@
-use Rattle.std.proofs.Common.{◌≡◌, ◌∙◌, ◌++◌, ◌<◌, List, get_or, length, ap, subst}
-use Rattle.std.specs.String.{string_bytes}
+use Rattle.gm_words.proofs.Common.{◌≡◌, ◌∙◌, ◌++◌, ◌<◌, List, get_or, length, ap, subst, string_bytes, group_line, member_line}
 use Rattle.gm_taste.specs.declared.tasted.Member.{Member}
-use Rattle.gm_words.specs.Tasting.{group_line, member_line}
 use Rattle.gm_words.proofs.GrownText.{grown}
 use Rattle.gm_words.proofs.tasted.push_group.Goals as goal
 

@@ -1,6 +1,4 @@
-use Rattle.std.proofs.Common.{◌≡◌, ◌++◌, flat_map, take}
-use Rattle.std.specs.String.{string_bytes}
-use Rattle.gm_words.specs.Tasting.{group_line, member_line}
+use Rattle.gm_words.proofs.Common.{◌≡◌, ◌++◌, flat_map, take, string_bytes, group_line, member_line}
 use Rattle.gm_words.proofs.tasted.push_group.Given as goal
 
 abbrev pub invariant-loop-member : goal.invariant-loop-member

@@ -1,7 +1,4 @@
-use Rattle.std.proofs.Common.{◌≡◌, ◌++◌, codes, flat_map, take}
-use Rattle.std.specs.String.{string_bytes}
-use Rattle.gm_words.specs.Lines.{line}
-use Rattle.gm_words.specs.Tasting.{left_line}
+use Rattle.gm_words.proofs.Common.{◌≡◌, ◌++◌, codes, flat_map, take, string_bytes, line, left_line}
 use Rattle.gm_words.proofs.tasted.push_left.Given as goal
 
 abbrev pub invariant-loop-x : goal.invariant-loop-x

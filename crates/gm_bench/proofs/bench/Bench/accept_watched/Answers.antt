@@ -1,10 +1,4 @@
-use Rattle.std.proofs.Common.{rules, ◌∙◌, Err, refl, sym, ap, subst}
-use Rattle.gm_bench.specs.declared.phase.Progress.{Progress}
-use Rattle.gm_bench.specs.declared.phase.Waiting.{Waiting}
-use Rattle.gm_bench.specs.Accepting.{HasNothingElse, WaitsFor}
-use Rattle.gm_bench.specs.Owed.{AcceptAnswers}
-use Rattle.gm_bench.specs.Phases.{progress_after}
-use Rattle.gm_registry.proofs.CallsLeave.{saved}
+use Rattle.gm_bench.proofs.Common.{rules, ◌∙◌, Err, refl, sym, ap, subst, Progress, Waiting, HasNothingElse, WaitsFor, AcceptAnswers, progress_after, saved}
 use Rattle.gm_bench.proofs.Causes.{fault_is}
 use Rattle.gm_bench.proofs.DecidesOnly.{unstepped_same}
 use Rattle.gm_bench.proofs.Phases.{in_fault, never_pending, work_hand}

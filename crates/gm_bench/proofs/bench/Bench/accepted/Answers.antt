@@ -1,4 +1,4 @@
-use Rattle.std.proofs.Common.{refl, rules}
+use Rattle.gm_bench.proofs.Common.{refl, rules}
 use Rattle.gm_bench.proofs.Looks.{closed_looks, looks_at_registry}
 use Rattle.gm_bench.proofs.bench.Bench.accepted.Goals as goal
 

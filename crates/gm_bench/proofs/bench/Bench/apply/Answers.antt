@@ -1,14 +1,7 @@
-use Rattle.std.proofs.Common.{rules, ◌≡◌, ◌∙◌, Err, ℕ, List, refl, sym, ap, subst, subst₂}
-use Rattle.sqlite.specs.Held.{Held}
-use Rattle.gm_state.specs.declared.intents.Intent.{Intent}
-use Rattle.gm_bench.specs.declared.answer.Work.{Work}
-use Rattle.gm_bench.specs.declared.phase.Progress.TheVariants.{Applied}
-use Rattle.gm_bench.specs.Owed.{ApplyDoes}
-use Rattle.gm_bench.specs.Recovering.{Cover, IsAt}
+use Rattle.gm_bench.proofs.Common.{rules, ◌≡◌, ◌∙◌, Err, ℕ, List, refl, sym, ap, subst, subst₂, Held, Intent, Work, Applied, ApplyDoes, Cover, IsAt, AreAtHand}
 use Rattle.gm_bench.proofs.Causes.{fault_is}
 use Rattle.gm_bench.proofs.Phases.{pending_work}
 use Rattle.gm_bench.proofs.bench.Bench.apply.Goals as goal
-use Rattle.gm_bench.specs.Presence.{AreAtHand}
 
 pub returns-in-Pending : goal.returns-in-Pending
 returns-in-Pending g c =

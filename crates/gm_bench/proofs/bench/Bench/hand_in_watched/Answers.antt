@@ -1,12 +1,7 @@
-use Rattle.std.proofs.Common.{rules, ◌∙◌, ◌<◌, Err, sym, ap, subst, arith}
-use Rattle.sqlite.specs.Held.{Held}
-use Rattle.gm_registry.specs.Registry.{DiskKept}
-use Rattle.gm_bench.specs.Calls.{GoesOn}
+use Rattle.gm_bench.proofs.Common.{rules, ◌∙◌, ◌<◌, Err, sym, ap, subst, arith, Held, DiskKept, GoesOn, Sizes, AreAtHand}
 use Rattle.gm_bench.proofs.Causes.{fault_is}
 use Rattle.gm_bench.proofs.Phases.{has_pending, in_fault, never_pending}
 use Rattle.gm_bench.proofs.Carried.{carried_handed, is_work, rest_handed, unaccepted, uncarried, work}
-use Rattle.gm_metadata.specs.Images.{Sizes}
-use Rattle.gm_bench.specs.Presence.{AreAtHand}
 use Rattle.gm_bench.proofs.bench.Bench.hand_in_watched.Goals as goal
 
 pub returns-in_err-answer : goal.returns-in_err-answer

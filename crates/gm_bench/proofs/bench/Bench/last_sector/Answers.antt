@@ -1,4 +1,4 @@
-use Rattle.std.proofs.Common.{◌∙◌, refl, ap, Err, rules}
+use Rattle.gm_bench.proofs.Common.{◌∙◌, refl, ap, Err, rules}
 use Rattle.gm_bench.proofs.Looks.{closed_looks, looks_at_shelf, shelf_disk}
 use Rattle.gm_bench.proofs.bench.Bench.last_sector.Goals as goal
 

@@ -1,9 +1,4 @@
-use Rattle.std.proofs.Common.{rules, ◌∙◌, Err, inl, inr, refl, sym, ap, subst, arith}
-use Rattle.sqlite.specs.Held.{Held}
-use Rattle.gm_registry.specs.Registry.{DiskKept, LeavesAlone, StoreFailed, stored}
-use Rattle.gm_registry.proofs.EitherSchema.{first_is_ours, second_is_ours}
-use Rattle.gm_bench.specs.Opened.{MayBeCarriedOver}
-use Rattle.gm_bench.specs.Owed.{OpenLeaves}
+use Rattle.gm_bench.proofs.Common.{rules, ◌∙◌, Err, inl, inr, refl, sym, ap, subst, arith, Held, DiskKept, LeavesAlone, StoreFailed, stored, first_is_ours, second_is_ours, MayBeCarriedOver, OpenLeaves}
 use Rattle.gm_bench.proofs.Causes.{of_failed, of_unreadable}
 use Rattle.gm_bench.proofs.DecidesOnly.{alone_then}
 use Rattle.gm_bench.proofs.ReopenedStore.{carried_then, failed_opened, found_at, known_store, not_opened, opens_over}

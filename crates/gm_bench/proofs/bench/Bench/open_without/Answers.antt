@@ -1,13 +1,4 @@
-use Rattle.std.proofs.Common.{rules, ◌≡◌, ◌∙◌, inl, inr, Ok, Err, refl, sym, ap, subst, arith}
-use Rattle.sqlite.specs.Held.{Held}
-use Rattle.sqlite.specs.Tree.{Trees}
-use Rattle.gm_registry.specs.Registry.{CrashLeaves, DiskKept, StoreFailed, stored}
-use Rattle.gm_bench.specs.declared.bench.Bench.{Bench}
-use Rattle.gm_bench.specs.declared.phase.Progress.TheVariants.{Ready}
-use Rattle.gm_bench.specs.declared.take_up_without.TakenUp.{TakenUp}
-use Rattle.gm_bench.specs.GivingUp.{AreUntouched, GivesUp, IsUnwritten, LacksImage}
-use Rattle.gm_bench.specs.Without.{DoesWithout, KeepsUndone}
-use Rattle.gm_bench.specs.Owed.{OpenLeaves}
+use Rattle.gm_bench.proofs.Common.{rules, ◌≡◌, ◌∙◌, inl, inr, Ok, Err, refl, sym, ap, subst, arith, Held, Trees, CrashLeaves, DiskKept, StoreFailed, stored, Bench, Ready, TakenUp, AreUntouched, GivesUp, IsUnwritten, LacksImage, DoesWithout, KeepsUndone, OpenLeaves}
 use Rattle.gm_bench.proofs.Causes.{of_failed, of_unreadable}
 use Rattle.gm_bench.proofs.OpenedRoom.{room_opened}
 use Rattle.gm_bench.proofs.ReopenedLoss.{answered, are_untouched, given_up, lacking, undone}

@@ -1,7 +1,4 @@
-use Rattle.std.proofs.Common.{rules, ◌≡◌, Err, ap, subst, arith}
-use Rattle.gm_registry.specs.Registry.{DiskKept}
-use Rattle.gm_bench.specs.declared.phase.Progress.{Progress}
-use Rattle.gm_bench.specs.Phases.{phase_carried, phase_of, waiting_of}
+use Rattle.gm_bench.proofs.Common.{rules, ◌≡◌, Err, ap, subst, arith, DiskKept, Progress, phase_carried, phase_of, waiting_of}
 use Rattle.gm_bench.proofs.Causes.{fault_is}
 use Rattle.gm_bench.proofs.Carried.{run_answers, run_leaves}
 use Rattle.gm_bench.proofs.CarriedOut.{nothing_else}

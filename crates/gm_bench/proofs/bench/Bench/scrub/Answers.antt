@@ -1,7 +1,4 @@
-use Rattle.std.proofs.Common.{◌∙◌, refl, sym, ap, subst, Err, rules}
-use Rattle.gm_state.specs.Records.{Records}
-use Rattle.gm_looks.specs.Scrubs.{IsScrub}
-use Rattle.gm_bench.specs.Benches.{shelf_of}
+use Rattle.gm_bench.proofs.Common.{◌∙◌, refl, sym, ap, subst, Err, rules, Records, IsScrub, shelf_of}
 use Rattle.gm_bench.proofs.Looks.{looks_at_both, shelf_disk}
 use Rattle.gm_bench.proofs.bench.Bench.scrub.Goals as goal
 

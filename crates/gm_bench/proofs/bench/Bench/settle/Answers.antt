@@ -1,5 +1,4 @@
-use Rattle.std.proofs.Common.{rules, subst}
-use Rattle.gm_bench.specs.Recovering.{LeavesOnly}
+use Rattle.gm_bench.proofs.Common.{rules, subst, LeavesOnly}
 use Rattle.gm_bench.proofs.bench.Bench.settle.Goals as goal
 
 pub returns-in-Applied : goal.returns-in-Applied

@@ -1,7 +1,4 @@
-use Rattle.std.proofs.Common.{rules, ◌∙◌, inl, sym, ap}
-use Rattle.std.proofs.lemmas.Result.{on_ok_weaker}
-use Rattle.gm_registry.proofs.CallsLeave.{saved}
-use Rattle.gm_bench.specs.Phases.{phase_of}
+use Rattle.gm_bench.proofs.Common.{rules, ◌∙◌, inl, sym, ap, on_ok_weaker, saved, phase_of}
 use Rattle.gm_bench.proofs.Phases.{not_ok}
 use Rattle.gm_bench.proofs.Standing.{carried_so, rest_stands, settles_to, settling_leaves, stands_only}
 use Rattle.gm_bench.proofs.bench.Bench.settle_waiting.Goals as goal

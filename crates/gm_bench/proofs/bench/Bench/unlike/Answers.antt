@@ -1,8 +1,4 @@
-use Rattle.std.proofs.Common.{◌∙◌, refl, sym, ap, subst, Err, rules}
-use Rattle.gm_refusals.specs.Applies.{is_about}
-use Rattle.gm_state.specs.Records.{Records}
-use Rattle.gm_looks.specs.Unlikes.{IsUnlike}
-use Rattle.gm_bench.specs.Benches.{shelf_of}
+use Rattle.gm_bench.proofs.Common.{◌∙◌, refl, sym, ap, subst, Err, rules, is_about, Records, IsUnlike, shelf_of}
 use Rattle.gm_bench.proofs.Looks.{looks_at_both, shelf_disk}
 use Rattle.gm_bench.proofs.bench.Bench.unlike.Goals as goal
 

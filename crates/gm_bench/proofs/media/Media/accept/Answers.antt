@@ -1,5 +1,4 @@
-use Rattle.std.proofs.Common.{rules, ◌∙◌, sym}
-use Rattle.gm_registry.proofs.CallsLeave.{saved}
+use Rattle.gm_bench.proofs.Common.{rules, ◌∙◌, sym, saved}
 use Rattle.gm_bench.proofs.DecidesOnly.{ok_then, unstepped_same, reads_none}
 use Rattle.gm_bench.proofs.media.Media.accept.Goals as goal
 

@@ -1,16 +1,8 @@
-use Rattle.std.proofs.Common.{rules, ◌≡◌, ◌≢◌, ◌∙◌, ℕ, refl, sym, subst, subst₂, arith, string_bytes, true≢false}
-use Rattle.std.proofs.lemmas.Result.{on_err_weaker, on_ok_weaker}
-use Rattle.std.specs.Prelude.{MatchOption}
-use Rattle.gm_lists.proofs.Order.{same_is, same_from}
+use Rattle.gm_bench.proofs.Common.{rules, ◌≡◌, ◌≢◌, ◌∙◌, ℕ, refl, sym, subst, subst₂, arith, string_bytes, true≢false, on_err_weaker, on_ok_weaker, MatchOption, same_is, same_from, DiskKept, IsFree, IsKept, saved, quiet_itself, most_rows}
 use Rattle.gm_rules.specs.AbstractCalls as run
-use Rattle.gm_registry.specs.Registry.{DiskKept}
-use Rattle.gm_registry.specs.Replies.{IsFree, IsKept}
-use Rattle.gm_registry.proofs.CallsLeave.{saved}
-use Rattle.gm_shelf.proofs.InTurn.{quiet_itself}
 use Rattle.gm_bench.proofs.CallAnswers.{kept_answer, same_again, other_command}
 use Rattle.gm_bench.proofs.CarriedOut.{seen_leads}
 use Rattle.gm_bench.proofs.DecidesOnly.{nothing_then, still, unstepped, then_step, ok_then, reads_then}
-use Rattle.gm_bench.specs.Calls.{most_rows}
 use Rattle.gm_bench.proofs.StoreFails.{failed_later, goes_later, room_later}
 use Rattle.gm_bench.proofs.media.Media.answer.Goals as goal
 

@@ -1,7 +1,5 @@
-use Rattle.std.proofs.Common.{rules, ◌≡◌, ◌∙◌, Err, sym, ap}
-use Rattle.gm_bench.specs.declared.fault.BenchFault.TheVariants.{Disk}
+use Rattle.gm_bench.proofs.Common.{rules, ◌≡◌, ◌∙◌, Err, sym, ap, Disk, saved}
 use Rattle.gm_bench.proofs.Causes.{of_disk, not_lacking_provider, not_lacking_sector}
-use Rattle.gm_registry.proofs.CallsLeave.{saved}
 use Rattle.gm_bench.proofs.CarriedIntents.{moments, leaves, carried, ended}
 use Rattle.gm_bench.proofs.media.Media.apply.Goals as goal
 

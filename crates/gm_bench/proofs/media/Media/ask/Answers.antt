@@ -1,5 +1,4 @@
-use Rattle.std.proofs.Common.{rules, Err, ap}
-use Rattle.gm_bench.specs.Accepting.{left_by}
+use Rattle.gm_bench.proofs.Common.{rules, Err, ap, left_by}
 use Rattle.gm_bench.proofs.CarriedOut.{left_records}
 use Rattle.gm_bench.proofs.Causes.{fault_is}
 use Rattle.gm_bench.proofs.DecidesOnly.{ok_then}

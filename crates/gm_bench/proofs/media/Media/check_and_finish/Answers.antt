@@ -1,6 +1,4 @@
-use Rattle.std.proofs.Common.{rules, ◌∙◌, sym}
-use Rattle.std.proofs.lemmas.Result.{on_ok_weaker}
-use Rattle.gm_registry.proofs.CallsLeave.{saved}
+use Rattle.gm_bench.proofs.Common.{rules, ◌∙◌, sym, on_ok_weaker, saved}
 use Rattle.gm_bench.proofs.Found.{ready, covered}
 use Rattle.gm_bench.proofs.RegistryLeaves.{still_only}
 use Rattle.gm_bench.proofs.media.Media.check_and_finish.Goals as goal

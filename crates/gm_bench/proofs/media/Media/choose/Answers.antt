@@ -1,14 +1,4 @@
-use Rattle.std.proofs.Common.{rules, ℕ, List, Err, sym, ap, subst, arith}
-use Rattle.std.proofs.lemmas.Result.{on_err_weaker, on_ok_weaker}
-use Rattle.gm_registry.specs.Registry.{DiskKept}
-use Rattle.gm_registry.proofs.CallsLeave.{saved}
-use Rattle.gm_refusals.specs.Applies.{IsLeast}
-use Rattle.gm_refusals.specs.WorldFacts.{seen_of}
-use Rattle.gm_commands.specs.Commands.{words_of}
-use Rattle.gm_bench.specs.Calls.{most_rows}
-use Rattle.gm_bench.specs.Accepting.{LeavesStep, IsAnswered, left_by}
-use Rattle.gm_bench.specs.Planning.{IsFitting, IsPlanned, IsDecided, IsPlanAtHand, IsPlanFitting}
-use Rattle.gm_bench.specs.Presence.{AreAtHand}
+use Rattle.gm_bench.proofs.Common.{rules, ℕ, List, Err, sym, ap, subst, arith, on_err_weaker, on_ok_weaker, DiskKept, saved, IsLeast, seen_of, words_of, most_rows, LeavesStep, IsAnswered, left_by, IsFitting, IsPlanned, IsDecided, IsPlanAtHand, IsPlanFitting, AreAtHand}
 use Rattle.gm_bench.proofs.CallAnswers.{least}
 use Rattle.gm_bench.proofs.CarriedOut.{seen_leads}
 use Rattle.gm_bench.proofs.Causes.{fault_is}

@@ -1,14 +1,7 @@
-use Rattle.std.proofs.Common.{rules, ◌≡◌, ◌∙◌, ◌≤◌, ◌+◌, arith, length, subst, sym}
-use Rattle.gm_registry.specs.Changes.{with_accepted}
-use Rattle.gm_registry.specs.Registry.{HasSaved, MayLeave, seen}
-use Rattle.gm_state.specs.Rows.{Tables}
-use Rattle.gm_bench.specs.declared.fault.BenchFault.TheVariants.{Store}
-use Rattle.gm_bench.specs.Calls.{most_rows}
+use Rattle.gm_bench.proofs.Common.{rules, ◌≡◌, ◌∙◌, ◌≤◌, ◌+◌, arith, length, subst, sym, with_accepted, HasSaved, MayLeave, seen, Tables, Store, most_rows, less_room, saved}
 use Rattle.gm_bench.proofs.Causes.{of_failed}
 use Rattle.gm_bench.proofs.CarriedOut.{left_settled}
 use Rattle.gm_bench.proofs.FittingPlans.{fits_left}
-use Rattle.gm_registry.proofs.StepsInTurn.{less_room}
-use Rattle.gm_registry.proofs.CallsLeave.{saved}
 use Rattle.gm_bench.proofs.Commits.{commit_leaves, commit_done}
 use Rattle.gm_bench.proofs.media.Media.commit.Goals as goal
 

@@ -1,14 +1,5 @@
-use Rattle.std.proofs.Common.{rules, ◌≡◌, ◌∙◌, ◌+◌, ◌≤◌, List, ℕ, arith, length, subst, sym}
-use Rattle.gm_registry.proofs.CallsLeave.{saved}
-use Rattle.gm_changes.specs.Decides.{Changed}
-use Rattle.gm_registry.specs.Changes.{with_pending, settled}
-use Rattle.gm_registry.specs.Registry.{HasTables, MayLeave, seen}
-use Rattle.gm_state.specs.Rows.{Tables}
+use Rattle.gm_bench.proofs.Common.{rules, ◌≡◌, ◌∙◌, ◌+◌, ◌≤◌, List, ℕ, arith, length, subst, sym, saved, Changed, with_pending, settled, HasTables, MayLeave, seen, Tables, FitsTables, less_room, most_rows, Store}
 use Rattle.gm_bench.proofs.LossCommits.{commits, lost, same_behind, same_pending}
-use Rattle.gm_registry.specs.FittingChanges.{FitsTables}
-use Rattle.gm_registry.proofs.StepsInTurn.{less_room}
-use Rattle.gm_bench.specs.Calls.{most_rows}
-use Rattle.gm_bench.specs.declared.fault.BenchFault.TheVariants.{Store}
 use Rattle.gm_bench.proofs.Causes.{of_failed}
 use Rattle.gm_bench.proofs.FittingLosses.{loss_fits_tables}
 use Rattle.gm_bench.proofs.media.Media.commit_loss.Goals as goal

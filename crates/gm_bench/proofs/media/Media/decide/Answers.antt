@@ -1,17 +1,8 @@
-use Rattle.std.proofs.Common.{rules, ◌<◌, Err, length, sym, ap, subst, arith}
-use Rattle.std.proofs.lemmas.Result.{on_err_weaker, on_ok_weaker}
-use Rattle.gm_rules.specs.Step.{CanAnswer}
-use Rattle.gm_registry.specs.Registry.{DiskKept}
-use Rattle.gm_registry.specs.Replies.{count_of}
-use Rattle.gm_registry.proofs.CallsLeave.{saved}
-use Rattle.gm_shelf.specs.Disk.{IsQuiet}
+use Rattle.gm_bench.proofs.Common.{rules, ◌<◌, Err, length, sym, ap, subst, arith, on_err_weaker, on_ok_weaker, CanAnswer, DiskKept, count_of, saved, IsQuiet, most_rows, IsWorkAtHand, IsHonestToAdopt}
 use Rattle.gm_bench.proofs.CallAnswers.{as_many, free_key, too_many}
 use Rattle.gm_bench.proofs.CarriedOut.{seen_leads}
 use Rattle.gm_bench.proofs.Causes.{fault_is}
 use Rattle.gm_bench.proofs.DecidesOnly.{nothing_then, quiet_same, still, unstepped, then_step, ok_then, many_of, room_of, reads_then}
-use Rattle.gm_bench.specs.Calls.{most_rows}
-use Rattle.gm_bench.specs.Planning.{IsWorkAtHand}
-use Rattle.gm_bench.specs.ShelfFacts.{IsHonestToAdopt}
 use Rattle.gm_bench.proofs.StoreFails.{failed_later, goes_later, room_later}
 use Rattle.gm_bench.proofs.media.Media.decide.Goals as goal
 

@@ -1,8 +1,5 @@
-use Rattle.std.proofs.Common.{rules, Err, sym, ap, subst}
-use Rattle.sqlite.specs.Held.{Held}
-use Rattle.gm_registry.specs.Registry.{HasTables, StoreFailed}
+use Rattle.gm_bench.proofs.Common.{rules, Err, sym, ap, subst, Held, HasTables, StoreFailed, AllLead}
 use Rattle.gm_bench.proofs.Causes.{fault_is}
-use Rattle.gm_bench.specs.Leading.{AllLead}
 use Rattle.gm_bench.proofs.RegistryLeaves.{then_only}
 use Rattle.gm_bench.proofs.media.Media.finish.Goals as goal
 

@@ -1,16 +1,4 @@
-use Rattle.std.proofs.Common.{rules, ◌≡◌, ◌∙◌, Err, List, ℕ, None, option_map, sym, ap, subst}
-use Rattle.sqlite.specs.Held.{Held}
-use Rattle.gm_state.specs.Records.{Records, IsState}
-use Rattle.gm_lists.specs.Ordered.{Has}
-use Rattle.gm_refusals.specs.Adoptable.{found_mids, source_in}
-use Rattle.gm_refusals.specs.PartOf.{IsPartOf, part_of}
-use Rattle.gm_refusals.specs.Seen.{seen_in}
-use Rattle.gm_refusals.specs.WorldFacts.{needed_by}
-use Rattle.gm_registry.specs.Registry.{DiskKept, HasTables}
-use Rattle.gm_bench.specs.AdoptScope.{adopted_from, compared_with}
-use Rattle.gm_bench.specs.ShelfFacts.{Tell, TellSizes}
-use Rattle.gm_metadata.specs.Images.{Sizes}
-use Rattle.gm_refusals.proofs.PartAgrees.{whole_is_part}
+use Rattle.gm_bench.proofs.Common.{rules, ◌≡◌, ◌∙◌, Err, List, ℕ, None, option_map, sym, ap, subst, Held, Records, IsState, Has, found_mids, source_in, IsPartOf, part_of, seen_in, needed_by, DiskKept, HasTables, adopted_from, compared_with, Tell, TellSizes, Sizes, whole_is_part}
 use Rattle.gm_bench.proofs.Causes.{fault_is}
 use Rattle.gm_bench.proofs.FactsLookedUp.{itself_told}
 use Rattle.gm_bench.proofs.PlannedAlone.{read_state, read_few, read_most}

@@ -1,13 +1,4 @@
-use Rattle.std.proofs.Common.{rules, ◌∙◌, [], ℕ, List, refl, sym, subst, subst₂, arith, string_bytes, true≢false}
-use Rattle.std.specs.Prelude.{MatchOption}
-use Rattle.gm_commands.specs.declared.command.Command.{Command}
-use Rattle.gm_commands.specs.declared.command.Command.TheVariants.{Lost}
-use Rattle.gm_commands.specs.Commands.{words_of}
-use Rattle.gm_registry.specs.Registry.{DiskKept}
-use Rattle.gm_registry.specs.Replies.{IsFree, IsKept}
-use Rattle.gm_bench.specs.declared.loss.Judged.{Judged}
-use Rattle.gm_bench.specs.declared.loss.Judged.TheVariants.{Kept}
-use Rattle.gm_bench.specs.Without.{AreOfLoss, CanBeCommitted, IsJudged, StaysReadable}
+use Rattle.gm_bench.proofs.Common.{rules, ◌∙◌, [], ℕ, List, refl, sym, subst, subst₂, arith, string_bytes, true≢false, MatchOption, Command, Lost, words_of, DiskKept, IsFree, IsKept, Judged, Kept, AreOfLoss, CanBeCommitted, IsJudged, StaysReadable}
 use Rattle.gm_bench.proofs.CallAnswers.{kept_answer}
 use Rattle.gm_bench.proofs.DecidesOnly.{ok_then, reads_then}
 use Rattle.gm_bench.proofs.LossJudged.{key_taken, kept_before}

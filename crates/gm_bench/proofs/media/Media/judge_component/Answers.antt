@@ -1,18 +1,7 @@
-use Rattle.std.proofs.Common.{rules, ◌≡◌, ◌≤◌, ◌∙◌, ◌∷◌, [], length, List, ℕ, IfOk, Result, sym, ap, subst, subst₂, string_bytes}
-use Rattle.gm_commands.specs.declared.command.Command.{Command}
-use Rattle.gm_commands.specs.declared.command.Command.TheVariants.{Lost}
-use Rattle.gm_commands.specs.Commands.{CommandFits, words_of}
-use Rattle.gm_state.specs.Records.{Records, IsState}
-use Rattle.gm_refusals.specs.declared.refusals.Refusal.{Refusal}
-use Rattle.gm_refusals.specs.WorldFacts.{seen_of}
-use Rattle.gm_changes.specs.Decides.{Changed, Decides, changed_by}
-use Rattle.gm_bench.specs.declared.loss.Judged.{Judged}
-use Rattle.gm_bench.specs.Without.{CanBeCommitted, IsJudged, IsRedirected, StayReadableBehind, StaysReadable}
+use Rattle.gm_bench.proofs.Common.{rules, ◌≡◌, ◌≤◌, ◌∙◌, ◌∷◌, [], length, List, ℕ, IfOk, Result, sym, ap, subst, subst₂, string_bytes, Command, Lost, CommandFits, words_of, Records, IsState, Refusal, seen_of, Changed, Decides, changed_by, Judged, CanBeCommitted, IsJudged, IsRedirected, StayReadableBehind, StaysReadable, settled, IsFitting}
 use Rattle.gm_bench.proofs.DecidesOnly.{ok_then}
 use Rattle.gm_bench.proofs.LossJudged.{rules_refuse, judged_by}
 use Rattle.gm_bench.proofs.LossRedone.{stays_readable}
-use Rattle.gm_registry.specs.Changes.{settled}
-use Rattle.gm_bench.specs.Planning.{IsFitting}
 use Rattle.gm_bench.proofs.FittingLosses.{can_commit, records_settled}
 use Rattle.gm_bench.proofs.media.Media.judge_component.Goals as goal
 

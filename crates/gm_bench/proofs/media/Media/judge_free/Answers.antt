@@ -1,12 +1,4 @@
-use Rattle.std.proofs.Common.{rules, ◌≡◌, ◌∙◌, ◌<◌, ℕ, List, [], None, Some, length, sym, subst, arith}
-use Rattle.gm_commands.specs.declared.command.Command.{Command}
-use Rattle.gm_commands.specs.declared.command.Command.TheVariants.{Lost}
-use Rattle.gm_state.specs.Lookups.{component_of}
-use Rattle.gm_state.specs.Records.{Records}
-use Rattle.gm_state.proofs.FoundRecords.{provider_at}
-use Rattle.gm_registry.specs.Replies.{count_of}
-use Rattle.gm_bench.specs.declared.loss.Judged.{Judged}
-use Rattle.gm_bench.specs.Without.{AreOfWorld, CanBeCommitted, IsJudged, StaysReadable}
+use Rattle.gm_bench.proofs.Common.{rules, ◌≡◌, ◌∙◌, ◌<◌, ℕ, List, [], None, Some, length, sym, subst, arith, Command, Lost, component_of, Records, provider_at, count_of, Judged, AreOfWorld, CanBeCommitted, IsJudged, StaysReadable}
 use Rattle.gm_bench.proofs.CallAnswers.{as_many, free_key}
 use Rattle.gm_bench.proofs.DecidesOnly.{many_of, ok_then, room_of}
 use Rattle.gm_bench.proofs.LossJudged.{no_room, not_member}

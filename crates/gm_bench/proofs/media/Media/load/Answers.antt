@@ -1,5 +1,4 @@
-use Rattle.std.proofs.Common.{rules, ◌≡◌, ◌∙◌, sym}
-use Rattle.gm_bench.specs.declared.fault.BenchFault.TheVariants.{Store, Unreadable}
+use Rattle.gm_bench.proofs.Common.{rules, ◌≡◌, ◌∙◌, sym, Store, Unreadable}
 use Rattle.gm_bench.proofs.Causes.{of_failed, of_unreadable}
 use Rattle.gm_bench.proofs.Found.{loaded}
 use Rattle.gm_bench.proofs.media.Media.load.Goals as goal

@@ -1,13 +1,7 @@
-use Rattle.std.proofs.Common.{rules, ◌∙◌, ℕ, List, Err, refl, sym, ap, subst, subst₂, arith}
-use Rattle.sqlite.specs.Held.{state}
-use Rattle.gm_registry.specs.Registry.{DiskKept}
-use Rattle.gm_state.specs.declared.intents.Intent.{Intent}
-use Rattle.gm_bench.specs.Without.{AreOfWorld, CanBeCommitted, IsJudged, StaysReadable}
+use Rattle.gm_bench.proofs.Common.{rules, ◌∙◌, ℕ, List, Err, refl, sym, ap, subst, subst₂, arith, state, DiskKept, Intent, AreOfWorld, CanBeCommitted, IsJudged, StaysReadable, AreRecordsOf, sees_registry}
 use Rattle.gm_bench.proofs.Causes.{fault_is}
 use Rattle.gm_bench.proofs.Found.{lead}
 use Rattle.gm_bench.proofs.TakenUp.{moved}
-use Rattle.gm_rows.specs.ReadableTables.{AreRecordsOf}
-use Rattle.gm_registry.proofs.ReadsInTurn.{sees_registry}
 use Rattle.gm_bench.proofs.DecidesOnly.{looks_then}
 use Rattle.gm_bench.proofs.StoreFails.{failed_later}
 use Rattle.gm_bench.proofs.media.Media.look_for_loss.Goals as goal

@@ -1,10 +1,4 @@
-use Rattle.std.proofs.Common.{rules, ◌≡◌, ◌∙◌, ◌<◌, inl, inr, Err, List, None, refl, sym, ap, subst, subst₂, arith}
-use Rattle.gm_state.specs.declared.intents.Intent.{Intent}
-use Rattle.gm_registry.specs.Registry.{DiskKept}
-use Rattle.gm_registry.proofs.CallsLeave.{saved}
-use Rattle.gm_bench.specs.Losing.{dropped}
-use Rattle.gm_bench.specs.Presence.{AreAtHand, first_absent}
-use Rattle.gm_bench.specs.Without.{loss_call}
+use Rattle.gm_bench.proofs.Common.{rules, ◌≡◌, ◌∙◌, ◌<◌, inl, inr, Err, List, None, refl, sym, ap, subst, subst₂, arith, Intent, DiskKept, saved, dropped, AreAtHand, first_absent, loss_call}
 use Rattle.gm_bench.proofs.Causes.{fault_is}
 use Rattle.gm_bench.proofs.LossCarried.{carries_lost, does_lost, not_committed}
 use Rattle.gm_bench.proofs.Present.{at_hand as hand_at}

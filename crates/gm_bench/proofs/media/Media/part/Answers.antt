@@ -1,5 +1,4 @@
-use Rattle.std.proofs.Common.{rules, ◌≡◌, ◌∙◌, sym}
-use Rattle.gm_bench.specs.declared.fault.BenchFault.TheVariants.{Disk}
+use Rattle.gm_bench.proofs.Common.{rules, ◌≡◌, ◌∙◌, sym, Disk}
 use Rattle.gm_bench.proofs.Causes.{no_disk}
 use Rattle.gm_bench.proofs.media.Media.part.Goals as goal
 

@@ -1,18 +1,7 @@
-use Rattle.std.proofs.Common.{◌≡◌, ◌∙◌, ◌≤◌, ◌∷◌, [], length, ℕ, List, IfOk, sym, subst}
-use Rattle.gm_commands.specs.declared.command.Command.{Command}
-use Rattle.gm_commands.specs.declared.command.Command.TheVariants.{Lost}
-use Rattle.gm_lists.specs.Ordered.{Has}
-use Rattle.gm_state.specs.Records.{Records}
-use Rattle.gm_refusals.specs.Facts.{size_in}
-use Rattle.gm_refusals.specs.Seen.{seen_in}
-use Rattle.gm_refusals.specs.WorldFacts.{needed_by, seen_of}
-use Rattle.gm_changes.specs.Decides.{Decides}
-use Rattle.gm_state.specs.World.{present}
-use Rattle.gm_commands.specs.Commands.{CommandFits, words_of}
+use Rattle.gm_bench.proofs.Common.{◌≡◌, ◌∙◌, ◌≤◌, ◌∷◌, [], length, ℕ, List, IfOk, sym, subst, Command, Lost, Has, Records, size_in, seen_in, needed_by, seen_of, Decides, present, CommandFits, words_of, IsFitting}
 use Rattle.gm_bench.proofs.DecidesOnly.{ok_then}
 use Rattle.gm_bench.proofs.LossRedone.{stays_behind}
 use Rattle.gm_bench.proofs.LossRules.{loss_alike, loss_state}
-use Rattle.gm_bench.specs.Planning.{IsFitting}
 use Rattle.gm_bench.proofs.FittingLosses.{loss_fits}
 use Rattle.gm_bench.proofs.media.Media.rule.Goals as goal
 

@@ -1,7 +1,5 @@
-use Rattle.std.proofs.Common.{rules, ◌≡◌, ◌∙◌, sym}
-use Rattle.gm_bench.specs.declared.fault.BenchFault.TheVariants.{Disk, Store}
+use Rattle.gm_bench.proofs.Common.{rules, ◌≡◌, ◌∙◌, sym, Disk, Store, saved}
 use Rattle.gm_bench.proofs.Causes.{no_disk, of_failed}
-use Rattle.gm_registry.proofs.CallsLeave.{saved}
 use Rattle.gm_bench.proofs.RegistryLeaves.{settle_leaves, settle_rests}
 use Rattle.gm_bench.proofs.media.Media.settle.Goals as goal
 

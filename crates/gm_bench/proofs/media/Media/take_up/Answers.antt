@@ -1,18 +1,8 @@
-use Rattle.std.proofs.Common.{◌<◌, Err, rules, ◌≡◌, ◌∙◌, length, sym, ap, subst, subst₂, arith, List, ℕ}
-use Rattle.gm_registry.specs.Registry.{DiskKept}
-use Rattle.sqlite.specs.Held.{state}
-use Rattle.gm_registry.proofs.CallsLeave.{saved}
-use Rattle.gm_registry.proofs.Failures.{failed_since}
-use Rattle.gm_registry.proofs.ReadsInTurn.{sees_registry}
-use Rattle.gm_bench.specs.Recovering.{LeavesOnly}
+use Rattle.gm_bench.proofs.Common.{◌<◌, Err, rules, ◌≡◌, ◌∙◌, length, sym, ap, subst, subst₂, arith, List, ℕ, DiskKept, state, saved, failed_since, sees_registry, LeavesOnly, Intent, same_mirror, same_component, AreTablesOf, one_reading}
 use Rattle.gm_bench.proofs.Causes.{fault_is}
 use Rattle.gm_bench.proofs.RegistryLeaves.{read_only}
 use Rattle.gm_bench.proofs.TakenUp.{absent_back, moved, leaves_back}
 use Rattle.gm_bench.proofs.media.Media.take_up.Goals as goal
-use Rattle.gm_state.specs.declared.intents.Intent.{Intent}
-use Rattle.gm_state.proofs.SameRows.{same_mirror, same_component}
-use Rattle.gm_rows.specs.ReadableTables.{AreTablesOf}
-use Rattle.gm_registry.proofs.OneReading.{one_reading}
 
 pub returns : goal.returns
 returns g c =

@@ -1,25 +1,9 @@
-use Rattle.std.proofs.Common.{rules, ◌≡◌, ◌⊎◌, ◌∙◌, ◌<◌, ◌+◌, ◌^◌, inl, inr, ℕ, List, Some, Err, refl, length, sym, ap, subst, subst₂, arith}
-use Rattle.gm_metadata.specs.Images.{Image}
-use Rattle.gm_state.specs.World.{World}
-use Rattle.gm_state.specs.declared.intents.Intent.{Intent}
-use Rattle.gm_registry.specs.Registry.{DiskKept, LeavesAlone}
-use Rattle.gm_rows.specs.ReadableTables.{AreTablesOf}
-use Rattle.gm_registry.proofs.CallsLeave.{saved}
-use Rattle.gm_bench.specs.declared.loss.Judged.{Judged}
-use Rattle.gm_bench.specs.declared.loss.Loss.{Loss}
-use Rattle.gm_bench.specs.Losing.{dropped}
-use Rattle.gm_bench.specs.Recovering.{IsFound}
-use Rattle.gm_bench.specs.Without.{CanBeCommitted, HasJudged, IsJudged, LeavesOpened, StaysReadable, loss_call}
+use Rattle.gm_bench.proofs.Common.{rules, ◌≡◌, ◌⊎◌, ◌∙◌, ◌<◌, ◌+◌, ◌^◌, inl, inr, ℕ, List, Some, Err, refl, length, sym, ap, subst, subst₂, arith, Image, World, Intent, DiskKept, LeavesAlone, AreTablesOf, saved, Judged, Loss, dropped, IsFound, CanBeCommitted, HasJudged, IsJudged, LeavesOpened, StaysReadable, loss_call, IsUnwritten, Unreadable, Media, same_mirror, same_component, one_reading, most_rows}
 use Rattle.gm_bench.proofs.LossCarried.{finished_opened, lost_behind, nothing_opened}
 use Rattle.gm_bench.proofs.TakenUp.{absent_back, moved}
 use Rattle.gm_bench.proofs.Causes.{absent_or_unreadable, fault_is, only_absent, passed_unwritten}
 use Rattle.gm_bench.proofs.DecidesOnly.{alone_read, unlost_read}
-use Rattle.gm_bench.specs.GivingUp.{IsUnwritten}
-use Rattle.gm_bench.specs.declared.fault.BenchFault.TheVariants.{Absent, Unreadable}
-use Rattle.gm_bench.specs.declared.media.Media.{Media}
-use Rattle.gm_state.proofs.SameRows.{same_mirror, same_component}
-use Rattle.gm_registry.proofs.OneReading.{one_reading}
-use Rattle.gm_bench.specs.Calls.{most_rows}
+use Rattle.gm_bench.specs.declared.fault.BenchFault.TheVariants.{Absent}
 use Rattle.gm_bench.proofs.StoreFails.{failed_later, room_later}
 use Rattle.gm_bench.proofs.media.Media.take_up_without.Goals as goal
 

@@ -1,10 +1,5 @@
-use Rattle.std.proofs.Common.{sym, subst}
-use Rattle.gm_changes.specs.Decides.{Changed}
+use Rattle.gm_bench.proofs.Common.{sym, subst, Changed, settled, with_accepted, Writes, Waiting, left_by}
 use Rattle.gm_registry.specs.Accepting.{Accepts as WritesAccepted}
-use Rattle.gm_registry.specs.Changes.{settled, with_accepted}
-use Rattle.gm_registry.specs.Registry.{Writes}
-use Rattle.gm_bench.specs.declared.phase.Waiting.{Waiting}
-use Rattle.gm_bench.specs.Accepting.{left_by}
 use Rattle.gm_bench.proofs.LossCommits.{same_pending}
 use Rattle.gm_bench.proofs.media.Media.write.Goals as goal
 

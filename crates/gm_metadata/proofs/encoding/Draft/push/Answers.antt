@@ -1,4 +1,4 @@
-use Rattle.std.proofs.Common.{rules, ◌+◌, ◌≤◌, length}
+use Rattle.gm_metadata.proofs.Common.{rules, ◌+◌, ◌≤◌, length}
 use Rattle.gm_metadata.proofs.Sector.{zeros_follow}
 use Rattle.gm_metadata.proofs.encoding.Draft.push.Goals as goal
 

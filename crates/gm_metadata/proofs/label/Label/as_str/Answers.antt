@@ -1,5 +1,4 @@
-use Rattle.std.proofs.Common.{rules}
-use Rattle.std.specs.Str.{IsUtf8}
+use Rattle.gm_metadata.proofs.Common.{rules, IsUtf8}
 use Rattle.gm_metadata.proofs.Labels.{label_is_text, ok_where_no_error}
 use Rattle.gm_metadata.proofs.label.Label.as_str.Goals as goal
 

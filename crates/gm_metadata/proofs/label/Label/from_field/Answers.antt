@@ -1,4 +1,4 @@
-use Rattle.std.proofs.Common.{rules}
+use Rattle.gm_metadata.proofs.Common.{rules}
 use Rattle.gm_metadata.proofs.Labels.{field_that_passes}
 use Rattle.gm_metadata.proofs.label.Label.from_field.Goals as goal
 

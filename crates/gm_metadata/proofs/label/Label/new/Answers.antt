@@ -1,5 +1,4 @@
-use Rattle.std.proofs.Common.{rules, ◌≡◌, Some, true, ap, sym, subst, refl}
-use Rattle.gm_metadata.specs.Labels.{is_label, IsLabelField}
+use Rattle.gm_metadata.proofs.Common.{rules, ◌≡◌, Some, true, ap, sym, subst, refl, is_label, IsLabelField}
 use Rattle.gm_metadata.proofs.Labels.{field_of_label, name_again, label_parts, copied_name}
 use Rattle.gm_metadata.proofs.label.Label.new.Goals as goal
 

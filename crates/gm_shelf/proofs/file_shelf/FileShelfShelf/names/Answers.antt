@@ -1,8 +1,4 @@
-use Rattle.std.proofs.Common.{◌∙◌, List, ℕ, subst, sym}
-use Rattle.std.specs.BTreeMap.{keys}
-use Rattle.std.proofs.lemmas.Result.{IfOk-weaker}
-use Rattle.gm_shelf.specs.Disk.{AreNames}
-use Rattle.gm_shelf.specs.Folder.{sectors_of}
+use Rattle.gm_shelf.proofs.Common.{◌∙◌, List, ℕ, subst, sym, keys, IfOk-weaker, AreNames, sectors_of}
 use Rattle.gm_shelf.proofs.KeyNames.{names_are, is_some-option_map}
 use Rattle.gm_shelf.proofs.file_shelf.FileShelfShelf.names.Goals as goal
 

@@ -1,7 +1,4 @@
-use Rattle.std.proofs.Common.{◌≡◌, ◌∙◌, ◌++◌, ◌∷◌, [], ap, sym, subst, true, rules, List, reverse, is_ok}
-use Rattle.gm_shelf.specs.Cache.{IsCache}
-use Rattle.gm_shelf.specs.declared.history.Event.{Event}
-use Rattle.gm_shelf.specs.declared.history.Event.TheVariants.{Added}
+use Rattle.gm_shelf.proofs.Common.{◌≡◌, ◌∙◌, ◌++◌, ◌∷◌, [], ap, sym, subst, true, rules, List, reverse, is_ok, IsCache, Event, Added}
 use Rattle.gm_shelf.proofs.CachedContents.{cache_added}
 use Rattle.gm_shelf.proofs.Steps.{pushed}
 use Rattle.gm_shelf.proofs.mem_shelf.MemShelf.add.Goals as goal

@@ -1,10 +1,4 @@
-use Rattle.std.proofs.Common.{◌≡◌, ◌∙◌, ◌+◌, [], ℕ, List, Option, Some, length, reverse, take, sym, subst, ap, arith}
-use Rattle.std.specs.Prelude.{unwrap_or}
-use Rattle.std.proofs.lemmas.List.{get_or_default}
-use Rattle.gm_shelf.specs.Disk.{AreNames}
-use Rattle.gm_shelf.specs.History.{size_after}
-use Rattle.gm_shelf.specs.Picks.{unsynced_of}
-use Rattle.gm_shelf.specs.declared.history.Event.{Event}
+use Rattle.gm_shelf.proofs.Common.{◌≡◌, ◌∙◌, ◌+◌, [], ℕ, List, Option, Some, length, reverse, take, sym, subst, ap, arith, unwrap_or, get_or_default, AreNames, size_after, unsynced_of, Event}
 use Rattle.gm_shelf.proofs.CachedContents.{past}
 use Rattle.gm_shelf.proofs.Fresh.{fresh_settled}
 use Rattle.gm_shelf.proofs.SoFar.{IsSoFar, name_at, known_size, listed_size, new_name, so_far_named, same_sizes, all_picked, all_left}

@@ -1,4 +1,4 @@
-use Rattle.std.proofs.Common.{reverse}
+use Rattle.gm_shelf.proofs.Common.{reverse}
 use Rattle.gm_shelf.proofs.SoFar.{IsSoFar}
 use Rattle.gm_shelf.proofs.mem_shelf.MemShelf.crash_image.Given as goal
 

@@ -1,11 +1,4 @@
-use Rattle.std.proofs.Common.{◌≡◌, ◌∙◌, List, ℕ, ap, sym, subst, length, reverse, is_some}
-use Rattle.std.specs.Ordering.{nat_cmp, eq_by_cmp}
-use Rattle.std.specs.Cmp.Lexicographic.{slice_cmp}
-use Rattle.std.specs.BTreeMap.{keys, get}
-use Rattle.std.specs.Set.{is_member}
-use Rattle.gm_metadata.specs.declared.label.Label.{Label}
-use Rattle.gm_shelf.specs.Disk.{AreNames}
-use Rattle.gm_shelf.specs.History.{size_after}
+use Rattle.gm_shelf.proofs.Common.{◌≡◌, ◌∙◌, List, ℕ, ap, sym, subst, length, reverse, is_some, nat_cmp, eq_by_cmp, slice_cmp, keys, get, is_member, Label, AreNames, size_after}
 use Rattle.gm_shelf.proofs.EachPicked.{picks_upto, picks_name, small_upto}
 use Rattle.gm_shelf.proofs.KeyNames.{names_are, is_some-option_map}
 use Rattle.gm_shelf.proofs.mem_shelf.MemShelf.every_image_has_picks.Goals as goal

@@ -1,8 +1,4 @@
-use Rattle.std.proofs.Common.{◌∙◌, List, ℕ, subst, sym, ap, reverse, is_some}
-use Rattle.std.specs.BTreeMap.{keys}
-use Rattle.std.proofs.lemmas.Result.{IfOk-weaker}
-use Rattle.gm_shelf.specs.Disk.{AreNames}
-use Rattle.gm_shelf.specs.History.{size_after}
+use Rattle.gm_shelf.proofs.Common.{◌∙◌, List, ℕ, subst, sym, ap, reverse, is_some, keys, IfOk-weaker, AreNames, size_after}
 use Rattle.gm_shelf.proofs.KeyNames.{names_are, is_some-option_map}
 use Rattle.gm_shelf.proofs.mem_shelf.MemShelfShelf.names.Goals as goal
 

@@ -1,5 +1,5 @@
-use Rattle.std.proofs.Common.{◌≡◌, ◌<◌, ◌+◌, ℕ}
-use Rattle.gm_shelf.specs.Disk.{AreReads, sector_of}
+use Rattle.gm_shelf.proofs.Common.{◌≡◌, ◌<◌, ◌+◌, ℕ, AreReads}
+use Rattle.gm_shelf.specs.Disk.{sector_of}
 use Rattle.gm_shelf.proofs.shelf.Shelf.read_run.Given as goal
 
 abbrev pub invariant-loop-index : goal.invariant-loop-index

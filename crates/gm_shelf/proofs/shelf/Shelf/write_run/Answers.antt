@@ -1,4 +1,4 @@
-use Rattle.std.proofs.Common.{◌∙◌, arith, rules}
+use Rattle.gm_shelf.proofs.Common.{◌∙◌, arith, rules}
 use Rattle.gm_shelf.proofs.Runs.{run_then, put_more}
 use Rattle.gm_shelf.proofs.shelf.Shelf.write_run.Goals as goal
 

@@ -1,6 +1,4 @@
-use Rattle.std.proofs.Common.{◌≡◌}
-use Rattle.gm_metadata.specs.Images.{Same}
-use Rattle.gm_shelf.specs.Disk.{IsRunWrite}
+use Rattle.gm_shelf.proofs.Common.{◌≡◌, Same, IsRunWrite}
 use Rattle.gm_shelf.proofs.Runs.{put_upto}
 use Rattle.gm_shelf.proofs.shelf.Shelf.write_run.Given as goal
 

@@ -1,6 +1,4 @@
-use Rattle.std.proofs.Common.{rules, sym, ◌∙◌, false}
-use Rattle.std.proofs.lemmas.List.Sorted.{answers_always}
-use Rattle.gm_state.specs.Records.{name, provider}
+use Rattle.gm_state.proofs.Common.{rules, sym, ◌∙◌, false, answers_always, name, provider}
 use Rattle.gm_state.proofs.MadeState.{passed, refused, tested}
 use Rattle.gm_state.proofs.state.State.new.Goals as goal
 
