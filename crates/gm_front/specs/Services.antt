@@ -1,5 +1,5 @@
 -- What serving a request owes: what it asks, what is told of that, and where it leaves the bench.
-use Rattle.std.specs.Prelude.{◌≡◌, ◌⊎◌, ℕ, List, [], Option, Some, None, Result, Ok, Err, IfSome, codes}
+use Rattle.std.specs.Prelude.{◌≡◌, ◌⊎◌, ℕ, List, [], Option, Some, None, Result, Ok, Err, IfErr, IfSome, IsTrue, codes}
 use Rattle.std.specs.Io.KnownBytes.{Appends, Keeps}
 use Rattle.sqlite_trees.specs.declared.store.Store.{Ghosts}
 use Rattle.sqlite.specs.Held.{Held}
@@ -11,9 +11,11 @@ use Rattle.gm_bench.specs.Benches.{progress_of, registry_of, shelf_of}
 use Rattle.gm_bench.specs.Recovering.{IsAt}
 use Rattle.gm_bench.specs.declared.bench.Bench.{Bench}
 use Rattle.gm_bench.specs.declared.fault.BenchFault.{BenchFault}
+use Rattle.gm_http.specs.Peers.{has_failed}
 use Rattle.gm_http.specs.Requests.{Asked, Asks}
 use Rattle.gm_http.specs.Responses.{code_of, response_bytes}
 use Rattle.gm_http.specs.Senders.{IsFromPage}
+use Rattle.gm_http.specs.declared.peer.Peer.{Peer}
 use Rattle.gm_http.specs.declared.status.Status.TheVariants.{Forbidden}
 use Rattle.gm_json.specs.Answers.{error_json}
 use Rattle.gm_front.specs.declared.answer_lines.FrontFault.{FrontFault}
@@ -32,6 +34,14 @@ bytes_of told = response_bytes told.status told.body
 abbrev pub code_told : Result Response FrontFault → Result ℕ FrontFault
 code_told (Ok response) = Ok (code_of response.status)
 code_told (Err fault) = Err fault
+
+-- only of a peer that couldn't be read from is it said that it couldn't
+abbrev pub ServesUnlessFailed : {R T : Type 0} → Peer R → Result T FrontFault → Type 0
+ServesUnlessFailed peer result = IfErr result (λ fault. fault ≡ Read → IsTrue (has_failed peer))
+
+-- whatever was read, it isn't said that nothing could be
+abbrev pub WasRead : {T : Type 0} → Result T FrontFault → Type 0
+WasRead result = IfErr result (λ fault. fault ≡ Read → ⊥)
 
 -- what a page is told
 abbrev pub page_told : Told

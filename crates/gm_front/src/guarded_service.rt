@@ -14,7 +14,7 @@ ghost use Rattle.gm_bench.specs.Recovering.{IsAt};
 ghost use Rattle.gm_front.specs.Findings.{LeavesBench, TellsStoreAt, demand_in, fault_of, progress_behind};
 ghost use Rattle.gm_front.specs.GuardedServices.{FindsUnlessWithheld, HadNothing, ServesGuarded, ServesOrWithholds};
 ghost use Rattle.gm_front.specs.Closing.{KeepsClosed};
-ghost use Rattle.gm_front.specs.Services.{TurnsAway, code_told};
+ghost use Rattle.gm_front.specs.Services.{ServesUnlessFailed, TurnsAway, WasRead, code_told};
 
 use crate::answer_lines::FrontFault;
 use crate::demand::{Demand, demand_of};
@@ -22,7 +22,7 @@ use crate::finding::{Finding, find};
 use crate::guard::in_the_way;
 use crate::service::{Served, tell, turn_away, unserved};
 use gm_bench::Bench;
-use gm_http::{Request, RequestFault, Sender, receive_request};
+use gm_http::{Peer, Request, RequestFault, Sender, receive_request};
 use gm_shelf::Shelf;
 use sqlite::Alter;
 use std::alloc::Global;
@@ -75,6 +75,7 @@ fn respond_guarded<W: Write, S: Alter, H: Shelf>(
         (W.contents writer.old) (W.contents writer.new) (code_told result.response)
         result.fault }
     ensures leaves { LeavesBench S.Store H.Shelf bench.old bench.new result.fault }
+    ensures read { WasRead result.response }
 {
     let Ok(demand) = demand_of(alloc, request) else {
         return unserved(FrontFault::Memory);
@@ -92,24 +93,25 @@ fn respond_guarded<W: Write, S: Alter, H: Shelf>(
 /// request that a web page sent is turned away, as by `serve_request_unless_page`.
 pub fn serve_request_guarded<R: Read, W: Write, S: Alter, H: Shelf>(
     alloc: Global,
-    reader: &mut R,
+    peer: &mut Peer<R>,
     writer: &mut W,
     any_origin: bool,
     bench: &mut Bench<S, H>,
 ) -> Served
     requires { TakesCommands (progress_of bench.old) }
-    ensures page { any_origin ≡ false → IfSome (R.remaining reader.old) (λ input. IsFromPage input
-        → (bench.new ≡ bench.old) × TurnsAway (W.contents writer.old) (W.contents writer.new)
-        (code_told result.response)) }
+    ensures page { any_origin ≡ false → IfSome (R.remaining peer.old.reader) (λ input.
+        IsFromPage input → (bench.new ≡ bench.old)
+        × TurnsAway (W.contents writer.old) (W.contents writer.new) (code_told result.response)) }
     ensures serves { H.honest (shelf_of bench.old) → DiskKept S.Store (registry_of bench.new)
         → (away : Image) (u : World)
         → IsAt S.Store H.Shelf (registry_of bench.old) (shelf_of bench.old) away [] [] u u
         → ServesGuarded S.Store H.Shelf bench.old bench.new any_origin away u
-        (R.remaining reader.old) (W.contents writer.old) (W.contents writer.new)
+        (R.remaining peer.old.reader) (W.contents writer.old) (W.contents writer.new)
         (code_told result.response) result.fault }
     ensures leaves { LeavesBench S.Store H.Shelf bench.old bench.new result.fault }
+    ensures read { ServesUnlessFailed peer.new result.response }
 {
-    let received = match receive_request(alloc, reader) {
+    let received = match receive_request(alloc, peer) {
         Ok(received) => received,
         Err(RequestFault::Memory) => return unserved(FrontFault::Memory),
         Err(RequestFault::Read) => return unserved(FrontFault::Read),

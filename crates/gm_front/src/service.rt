@@ -1,6 +1,6 @@
 //! One request over HTTP, answered.
 
-ghost use Rattle.std.specs.Prelude.{◌≡◌, ℕ, List, [], Err, IfOk, IfErr, IfSome, None, OnErr, Option};
+ghost use Rattle.std.specs.Prelude.{◌≡◌, ℕ, List, [], Err, IfOk, IfSome, None, OnErr, Option};
 ghost use Rattle.std.specs.Io.KnownBytes.{Appends};
 ghost use Rattle.gm_metadata.specs.Images.{Image};
 ghost use Rattle.gm_state.specs.World.{World};
@@ -13,13 +13,15 @@ ghost use Rattle.gm_bench.specs.Phases.{TakesCommands};
 ghost use Rattle.gm_bench.specs.Recovering.{IsAt};
 ghost use Rattle.gm_front.specs.Batch.{AppendsFront};
 ghost use Rattle.gm_front.specs.Findings.{LeavesBench, told_of};
-ghost use Rattle.gm_front.specs.Services.{Serves, ServesOne, ServesUnlessPage, TurnsAway, bytes_of, code_told};
+ghost use Rattle.gm_front.specs.Services.{Serves, ServesOne, ServesUnlessFailed, ServesUnlessPage, TurnsAway, WasRead, bytes_of, code_told};
 
 use crate::answer_lines::{FrontFault, write_whole};
 use crate::demand::demand_of;
 use crate::finding::{Finding, find};
 use gm_bench::{Bench, BenchFault};
-use gm_http::{Request, RequestFault, Sender, Status, read_request, receive_request, response};
+use gm_http::{
+    Peer, Request, RequestFault, Sender, Status, read_request, receive_request, response,
+};
 use gm_shelf::Shelf;
 use sqlite::Alter;
 use std::alloc::Global;
@@ -53,7 +55,7 @@ pub(crate) fn tell<W: Write>(
         (bytes_of (told_of finding.now))) }
     ensures front { OnErr result (AppendsFront (W.contents writer.old) (W.contents writer.new)
         (bytes_of (told_of finding.now))) }
-    ensures fault { IfErr result (λ e. e ≡ FrontFault.Read → ⊥) }
+    ensures read { WasRead result }
 {
     let Ok(told) = finding.told(alloc) else {
         return Err(FrontFault::Memory);
@@ -99,6 +101,7 @@ fn respond<W: Write, S: Alter, H: Shelf>(
         (shelf_of bench.old) (shelf_of bench.new) away u (code_told result.response)
         result.fault }
     ensures leaves { LeavesBench S.Store H.Shelf bench.old bench.new result.fault }
+    ensures read { WasRead result.response }
 {
     let Ok(demand) = demand_of(alloc, request) else {
         return unserved(FrontFault::Memory);
@@ -115,7 +118,7 @@ fn respond<W: Write, S: Alter, H: Shelf>(
 /// phase Ready or Failed.
 pub fn serve_request<R: Read, W: Write, S: Alter, H: Shelf>(
     alloc: Global,
-    reader: &mut R,
+    peer: &mut Peer<R>,
     writer: &mut W,
     bench: &mut Bench<S, H>,
 ) -> Served
@@ -123,14 +126,15 @@ pub fn serve_request<R: Read, W: Write, S: Alter, H: Shelf>(
     ensures serves { H.honest (shelf_of bench.old) → DiskKept S.Store (registry_of bench.new)
         → (away : Image) (u : World)
         → IsAt S.Store H.Shelf (registry_of bench.old) (shelf_of bench.old) away [] [] u u
-        → Serves S.Store H.Shelf (R.remaining reader.old)
+        → Serves S.Store H.Shelf (R.remaining peer.old.reader)
         (W.contents writer.old) (W.contents writer.new)
         (registry_of bench.old) (registry_of bench.new)
         (shelf_of bench.old) (shelf_of bench.new) away u (code_told result.response)
         result.fault }
     ensures leaves { LeavesBench S.Store H.Shelf bench.old bench.new result.fault }
+    ensures read { ServesUnlessFailed peer.new result.response }
 {
-    match read_request(alloc, reader) {
+    match read_request(alloc, peer) {
         Ok(request) => respond(alloc, writer, bench, request),
         Err(RequestFault::Memory) => unserved(FrontFault::Memory),
         Err(RequestFault::Read) => unserved(FrontFault::Read),
@@ -142,6 +146,7 @@ pub(crate) fn turn_away<W: Write>(alloc: Global, writer: &mut W) -> Served
     ensures response { TurnsAway (W.contents writer.old) (W.contents writer.new)
         (code_told result.response) }
     ensures none { result.fault ≡ None }
+    ensures read { WasRead result.response }
 {
     let finding = Finding::TurnedDown(Status::Forbidden, "not from a page");
     Served {
@@ -154,25 +159,26 @@ pub(crate) fn turn_away<W: Write>(alloc: Global, writer: &mut W) -> Served
 /// asked of it, and stays what it is.
 pub fn serve_request_unless_page<R: Read, W: Write, S: Alter, H: Shelf>(
     alloc: Global,
-    reader: &mut R,
+    peer: &mut Peer<R>,
     writer: &mut W,
     bench: &mut Bench<S, H>,
 ) -> Served
     requires { TakesCommands (progress_of bench.old) }
-    ensures page { IfSome (R.remaining reader.old) (λ input. IsFromPage input
+    ensures page { IfSome (R.remaining peer.old.reader) (λ input. IsFromPage input
         → (bench.new ≡ bench.old) × TurnsAway (W.contents writer.old) (W.contents writer.new)
         (code_told result.response)) }
     ensures serves { H.honest (shelf_of bench.old) → DiskKept S.Store (registry_of bench.new)
         → (away : Image) (u : World)
         → IsAt S.Store H.Shelf (registry_of bench.old) (shelf_of bench.old) away [] [] u u
-        → ServesUnlessPage S.Store H.Shelf (R.remaining reader.old)
+        → ServesUnlessPage S.Store H.Shelf (R.remaining peer.old.reader)
         (W.contents writer.old) (W.contents writer.new)
         (registry_of bench.old) (registry_of bench.new)
         (shelf_of bench.old) (shelf_of bench.new) away u (code_told result.response)
         result.fault }
     ensures leaves { LeavesBench S.Store H.Shelf bench.old bench.new result.fault }
+    ensures read { ServesUnlessFailed peer.new result.response }
 {
-    let received = match receive_request(alloc, reader) {
+    let received = match receive_request(alloc, peer) {
         Ok(received) => received,
         Err(RequestFault::Memory) => return unserved(FrontFault::Memory),
         Err(RequestFault::Read) => return unserved(FrontFault::Read),
@@ -188,18 +194,19 @@ pub fn serve_request_unless_page<R: Read, W: Write, S: Alter, H: Shelf>(
 /// the bench accepted stays accepted.
 pub fn serve_one<R: Read, W: Write, S: Alter, H: Shelf>(
     alloc: Global,
-    reader: &mut R,
+    peer: &mut Peer<R>,
     writer: &mut W,
     bench: &mut Bench<S, H>,
 ) -> Result<u16, FrontFault>
     requires { TakesCommands (progress_of bench.old) }
-    ensures serves { ServesOne S.Store H.Shelf (R.remaining reader.old)
+    ensures serves { ServesOne S.Store H.Shelf (R.remaining peer.old.reader)
         (W.contents writer.old) (W.contents writer.new) bench.old bench.new result }
     ensures phase { TakesCommands (progress_of bench.new) }
     ensures keep { Keep S.Store H.Shelf (registry_of bench.old) (registry_of bench.new)
         (shelf_of bench.old) (shelf_of bench.new) }
+    ensures read { ServesUnlessFailed peer.new result }
 {
-    match serve_request(alloc, reader, writer, bench).response {
+    match serve_request(alloc, peer, writer, bench).response {
         Ok(response) => Ok(response.status.code()),
         Err(fault) => Err(fault),
     }

@@ -12,6 +12,7 @@ use gm_faults::Fault;
 use gm_front::{
     FrontFault, Response, Served, serve_request, serve_request_guarded, serve_request_unless_page,
 };
+use gm_http::Peer;
 use gm_process::{Status, Streams};
 use gm_shelf::Shelf;
 use sqlite::Alter;
@@ -47,7 +48,7 @@ fn told(response: Result<Response, FrontFault>) -> Option<Told> {
 // only if no image stands in its way, if that is looked at.
 fn serve_from<R: Read, W: Write, S: Alter, H: Shelf>(
     alloc: Global,
-    incoming: &mut R,
+    peer: &mut Peer<R>,
     outgoing: &mut W,
     service: Service,
     bench: &mut Bench<S, H>,
@@ -57,11 +58,11 @@ fn serve_from<R: Read, W: Write, S: Alter, H: Shelf>(
 {
     let any_origin = service.any_origin;
     if service.audits {
-        serve_request_guarded(alloc, incoming, outgoing, any_origin, bench)
+        serve_request_guarded(alloc, peer, outgoing, any_origin, bench)
     } else if any_origin {
-        serve_request(alloc, incoming, outgoing, bench)
+        serve_request(alloc, peer, outgoing, bench)
     } else {
-        serve_request_unless_page(alloc, incoming, outgoing, bench)
+        serve_request_unless_page(alloc, peer, outgoing, bench)
     }
 }
 
@@ -77,13 +78,14 @@ fn serve_connection<S: Alter, H: Shelf, E: Write>(
     requires { TakesCommands (progress_of bench.old) }
     ensures { TakesCommands (progress_of bench.new) }
 {
-    let Ok(mut incoming) = Incoming::begin(rt, stream) else {
+    let Ok(incoming) = Incoming::begin(rt, stream) else {
         return None;
     };
+    let mut peer = Peer::new(incoming);
     let mut outgoing = Outgoing::new(rt, stream);
-    let served = serve_from(rt.alloc(), &mut incoming, &mut outgoing, service, bench);
+    let served = serve_from(rt.alloc(), &mut peer, &mut outgoing, service, bench);
     if service.logs {
-        log.tell(rt, incoming.beginning(), told(served.response));
+        log.tell(rt, peer.reader.beginning(), told(served.response));
     }
     if served.response.is_ok() {
         let _ = end(rt, stream);

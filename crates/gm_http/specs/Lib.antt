@@ -2,6 +2,7 @@ pub mod Bodies
 pub mod Fields
 pub mod Heads
 pub mod Input
+pub mod Peers
 pub mod Requests
 pub mod Responses
 pub mod Routes

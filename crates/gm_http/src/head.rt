@@ -5,8 +5,10 @@ ghost use Rattle.httparse.specs.Grammar.{HasNoRequest};
 ghost use Rattle.httparse.specs.Spans.{IsRequestOf, IsRequestWithin, RequestOverflows};
 ghost use Rattle.gm_http.specs.Input.{HasNoHead, IsHead, Takes};
 ghost use Rattle.gm_http.specs.Heads.{Looks};
+ghost use Rattle.gm_http.specs.Peers.{ReadsUnlessFailed};
 
 use crate::input::take_some;
+use crate::peer::Peer;
 use crate::request::RequestFault;
 use httparse::Status;
 use httparse::spans::{HeaderSpan, RequestSpans, parse_request};
@@ -43,22 +45,23 @@ fn look(bytes: &[u8], headers: &mut [HeaderSpan; MOST_FIELDS]) -> Beginning
 /// Reads the head of a request, of at most 8,192 bytes and 64 fields, and what comes with it;
 /// `None` if the input has no such head. Reads nothing once that is decided.
 pub(crate) fn read_head<R: Read>(
-    reader: &mut R,
+    peer: &mut Peer<R>,
     bytes: &mut Vec<u8>,
     headers: &mut [HeaderSpan; MOST_FIELDS],
 ) -> Result<Option<RequestSpans>, RequestFault>
     requires { bytes.old.items ≡ [] }
     ensures takes { OnOk result
-        (Takes (R.remaining reader.old) (R.remaining reader.new) [] bytes.new.items) }
+        (Takes (R.remaining peer.old.reader) (R.remaining peer.new.reader) [] bytes.new.items) }
     ensures most { OnOk result (vec_len bytes.new ≤ 8192) }
     ensures head { IfOk result (λ found. IfSome found (λ spans.
         IsHead bytes.new.items headers.new spans)) }
     ensures none { IfOk result (λ found. IfNone found
-        (IfSome (R.remaining reader.old) HasNoHead)) }
+        (IfSome (R.remaining peer.old.reader) HasNoHead)) }
+    ensures read { ReadsUnlessFailed peer.new result }
 {
     while bytes.len() < MOST_BYTES {
         let missing = MOST_BYTES - bytes.len();
-        if !take_some(reader, bytes, missing)? {
+        if !take_some(peer, bytes, missing)? {
             return Ok(None);
         }
         match look(bytes, headers) {

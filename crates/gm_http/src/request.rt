@@ -5,6 +5,7 @@ ghost use Rattle.std.specs.Str.{bytes_eq};
 ghost use Rattle.httparse.specs.Spans.{IsHeaderWithin, IsWithin, header_bytes, span_bytes};
 ghost use Rattle.gm_http.specs.Fields.{length_by};
 ghost use Rattle.gm_http.specs.Input.{AsksAtHead, IsHead, Takes, TakesUpTo};
+ghost use Rattle.gm_http.specs.Peers.{ReadsUnlessFailed};
 ghost use Rattle.gm_http.specs.Requests.{Asks, asked_of, sent};
 ghost use Rattle.gm_http.specs.Responses.{method_name};
 ghost use Rattle.gm_http.specs.Routes.{target_of};
@@ -14,6 +15,7 @@ use crate::bodies::call_of;
 use crate::fields::length_by;
 use crate::head::{MOST_FIELDS, read_head};
 use crate::input::fill;
+use crate::peer::Peer;
 use crate::routes::{Target, target_of};
 use crate::sender::{Sender, sender_of};
 use crate::status::Allowed;
@@ -76,7 +78,7 @@ fn target_at(
     alloc: Global,
     bytes: &[u8],
     spans: &RequestSpans,
-) -> Result<Option<Target>, RequestFault>
+) -> Result<Option<Target>, AllocError>
     requires within { IsWithin (length bytes.now) spans.now.path }
     requires text { IsUtf8 (span_bytes bytes.now spans.now.path) }
     ensures { IfOk result (λ target.
@@ -85,7 +87,7 @@ fn target_at(
     let Ok(text) = str::from_utf8(spans.path.of(bytes)) else {
         unreachable!();
     };
-    Ok(target_of(alloc, text)?)
+    target_of(alloc, text)
 }
 
 // Whether the method is this one.
@@ -99,20 +101,21 @@ fn has_method(bytes: &[u8], spans: &RequestSpans, method: Allowed) -> bool
 // What the body asks that begins at `start`, by the fields of its head.
 fn read_call<R: Read>(
     alloc: Global,
-    reader: &mut R,
+    peer: &mut Peer<R>,
     bytes: &mut Vec<u8>,
     headers: &[HeaderSpan],
     start: usize,
 ) -> Result<Request, RequestFault>
     requires within { All (IsHeaderWithin (length bytes.old.items)) headers.now }
     requires start { start ≤ length bytes.old.items }
-    ensures asks { IfOk result (λ request. IfSome (R.remaining reader.old) (λ rest.
+    ensures asks { IfOk result (λ request. IfSome (R.remaining peer.old.reader) (λ rest.
         asked_of request ≡ sent (length_by (map (header_bytes bytes.old.items) headers.now))
         (drop start bytes.old.items ++ rest))) }
-    ensures takes { OnOk result
-        (Takes (R.remaining reader.old) (R.remaining reader.new) bytes.old.items bytes.new.items) }
+    ensures takes { OnOk result (Takes (R.remaining peer.old.reader)
+        (R.remaining peer.new.reader) bytes.old.items bytes.new.items) }
     ensures most { OnOk result
         (length bytes.new.items ≤ max (length bytes.old.items) (start + 131072)) }
+    ensures read { ReadsUnlessFailed peer.new result }
 {
     let Some(length) = length_by(alloc, bytes, headers)? else {
         return Ok(Request::BadRequest);
@@ -121,7 +124,7 @@ fn read_call<R: Read>(
         return Ok(Request::TooLarge);
     }
     let end = start + length as usize;
-    fill(reader, bytes, end)?;
+    fill(peer, bytes, end)?;
     if bytes.len() < end {
         return Ok(Request::BadRequest);
     }
@@ -137,18 +140,19 @@ fn read_call<R: Read>(
 // What a head asks that stands at the front of what was read.
 fn read_rest<R: Read>(
     alloc: Global,
-    reader: &mut R,
+    peer: &mut Peer<R>,
     bytes: &mut Vec<u8>,
     headers: &[HeaderSpan; MOST_FIELDS],
     spans: &RequestSpans,
 ) -> Result<Request, RequestFault>
     requires { IsHead bytes.old.items headers.now spans.now }
-    ensures asks { IfOk result (λ request. IfSome (R.remaining reader.old) (λ rest.
+    ensures asks { IfOk result (λ request. IfSome (R.remaining peer.old.reader) (λ rest.
         AsksAtHead bytes.old.items headers.now spans.now rest (asked_of request))) }
-    ensures takes { OnOk result
-        (Takes (R.remaining reader.old) (R.remaining reader.new) bytes.old.items bytes.new.items) }
+    ensures takes { OnOk result (Takes (R.remaining peer.old.reader)
+        (R.remaining peer.new.reader) bytes.old.items bytes.new.items) }
     ensures most { OnOk result
         (length bytes.new.items ≤ max (length bytes.old.items) (8192 + 131072)) }
+    ensures read { ReadsUnlessFailed peer.new result }
 {
     let Some(target) = target_at(alloc, bytes, spans)? else {
         return Ok(Request::NotFound);
@@ -161,9 +165,7 @@ fn read_rest<R: Read>(
         Target::Status => Ok(Request::Status),
         Target::Mirror(name) => Ok(Request::Mirror(*name)),
         Target::Metadata(name) => Ok(Request::Metadata(*name)),
-        Target::Commands => {
-            read_call(alloc, reader, bytes, &headers[..spans.headers], spans.len)
-        }
+        Target::Commands => { read_call(alloc, peer, bytes, &headers[..spans.headers], spans.len) }
     }
 }
 
@@ -178,33 +180,35 @@ pub struct Received {
 /// Reads one request, and says who sent it. A request that is answered without its body isn't read
 /// to its end, and none waits for a byte past it; what the reader gives beyond is ignored. Fails
 /// if the reader does, or for want of memory. Bytes that are no request were sent by a program.
-pub fn receive_request<R: Read>(alloc: Global, reader: &mut R) -> Result<Received, RequestFault>
-    ensures asks { IfOk result (λ received. IfSome (R.remaining reader.old) (λ input.
+pub fn receive_request<R: Read>(alloc: Global, peer: &mut Peer<R>) -> Result<Received, RequestFault>
+    ensures asks { IfOk result (λ received. IfSome (R.remaining peer.old.reader) (λ input.
         Asks input (asked_of received.request))) }
-    ensures sends { IfOk result (λ received. IfSome (R.remaining reader.old) (λ input.
+    ensures sends { IfOk result (λ received. IfSome (R.remaining peer.old.reader) (λ input.
         Sends input received.sender)) }
-    ensures front { OnOk result
-        (TakesUpTo (8192 + 131072) (R.remaining reader.old) (R.remaining reader.new)) }
+    ensures front { OnOk result (TakesUpTo (8192 + 131072) (R.remaining peer.old.reader)
+        (R.remaining peer.new.reader)) }
+    ensures read { ReadsUnlessFailed peer.new result }
 {
     let mut bytes = Vec::new(alloc);
     let mut headers = [EMPTY_HEADER_SPAN; MOST_FIELDS];
-    let Some(spans) = read_head(reader, &mut bytes, &mut headers)? else {
+    let Some(spans) = read_head(peer, &mut bytes, &mut headers)? else {
         return Ok(Received {
             request: Request::BadRequest,
             sender: Sender::Program,
         });
     };
     let sender = sender_of(&bytes, &headers[..spans.headers]);
-    let request = read_rest(alloc, reader, &mut bytes, &headers, &spans)?;
+    let request = read_rest(alloc, peer, &mut bytes, &headers, &spans)?;
     Ok(Received { request, sender })
 }
 
 /// Reads one request, as `receive_request` does, whoever sent it.
-pub fn read_request<R: Read>(alloc: Global, reader: &mut R) -> Result<Request, RequestFault>
-    ensures asks { IfOk result (λ request. IfSome (R.remaining reader.old) (λ input.
+pub fn read_request<R: Read>(alloc: Global, peer: &mut Peer<R>) -> Result<Request, RequestFault>
+    ensures asks { IfOk result (λ request. IfSome (R.remaining peer.old.reader) (λ input.
         Asks input (asked_of request))) }
-    ensures front { OnOk result
-        (TakesUpTo (8192 + 131072) (R.remaining reader.old) (R.remaining reader.new)) }
+    ensures front { OnOk result (TakesUpTo (8192 + 131072) (R.remaining peer.old.reader)
+        (R.remaining peer.new.reader)) }
+    ensures read { ReadsUnlessFailed peer.new result }
 {
-    Ok(receive_request(alloc, reader)?.request)
+    Ok(receive_request(alloc, peer)?.request)
 }

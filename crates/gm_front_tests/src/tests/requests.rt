@@ -6,6 +6,7 @@ use super::writers::with_room;
 use super::{images, in_memory, must, open};
 use gm_bench::{Bench, Phase};
 use gm_front::{FrontFault, serve_one};
+use gm_http::Peer;
 use gm_shelf::{FaultShelf, Shelf};
 use sqlite::{Alter, Connection};
 use std::io::{Read, Write};
@@ -39,10 +40,14 @@ fn try_serve<R: Read, W: Write, S: Alter, H: Shelf>(
     writer: &mut W,
     bench: &mut Bench<S, H>,
 ) -> Result<u16, FrontFault> {
-    match bench.phase() {
-        Phase::Ready | Phase::Failed => serve_one(rt.alloc(), reader, writer, bench),
+    let mut peer = Peer::new(reader);
+    let served = match bench.phase() {
+        Phase::Ready | Phase::Failed => serve_one(rt.alloc(), &mut peer, writer, bench),
         Phase::Pending | Phase::Applied => panic!(rt; "a request in another phase"),
-    }
+    };
+    let failed = peer.has_failed();
+    must(rt, failed == (served == Err(FrontFault::Read)), "a peer that failed is told otherwise");
+    served
 }
 
 // Serves what an input gives, which ends or fails so and is told this.

@@ -19,7 +19,7 @@ returns-clause-serves g c = λ honest kept input asks away u at.
     (subst (λ (demand : Demand). HadNothing g.S.Store g.H.Shelf c.args.bench.now
     found.new.bench demand found.result) c.in-Ok.ensures
     (found.ensures.guarded honest kept))
-    c.tell-response.ensures.ok c.tell-response.ensures.front c.tell-response.ensures.fault)
+    c.tell-response.ensures.ok c.tell-response.ensures.front c.tell-response.ensures.read)
 
 pub returns-clause-leaves : goal.returns-clause-leaves
 returns-clause-leaves g c = record {

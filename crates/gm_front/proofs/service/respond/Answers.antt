@@ -16,7 +16,7 @@ returns-clause-serves g c = λ honest kept input asks away u at.
     c.args.bench.now.media.shelf c.find-finding.new.bench.media.shelf away u demand
     c.find-finding.result) c.in-Ok.ensures
     (c.find-finding.ensures.comes honest kept away u at))
-    c.tell-response.ensures.ok c.tell-response.ensures.front c.tell-response.ensures.fault)
+    c.tell-response.ensures.ok c.tell-response.ensures.front c.tell-response.ensures.read)
 
 pub returns-clause-leaves : goal.returns-clause-leaves
 returns-clause-leaves g c = record {

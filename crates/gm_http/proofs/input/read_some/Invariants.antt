@@ -1,5 +1,0 @@
-use Rattle.gm_http.proofs.Common.{Keeps}
-use Rattle.gm_http.proofs.input.read_some.Given as goal
-
-abbrev pub invariant-loop : goal.invariant-loop
-invariant-loop g l = Keeps (g.R.Read.remaining l.fn.reader) (g.R.Read.remaining l.reader)
