@@ -1,6 +1,7 @@
 pub mod BatchRuns
 pub mod Common
 pub mod Found
+pub mod Heard
 pub mod ManyLooks
 pub mod NextLines
 pub mod Pages

@@ -54,7 +54,7 @@ ended_progress {first = first} {mid = mid} {last = last} takes given far closed 
         ap (λ b. b.progress) (stays (closed refl)) ∙ closed refl
 
 -- all lines are the first ones
-all_first : (input : Option (List ℕ)) (lines : List (List ℕ)) → AreLines input lines
+pub all_first : (input : Option (List ℕ)) (lines : List (List ℕ)) → AreLines input lines
     → AreFirst input lines
 all_first None lines are = tt
 all_first (Some bytes) lines are = ([], are ∙ sym (append-nil lines))

@@ -60,22 +60,26 @@ IsLeft input rest lines =
     IfSome input (λ bytes. (left : List ℕ) × (rest ≡ Some left)
     × (lines_of bytes ≡ lines ++ lines_of left))
 
-long_asked : (line : List ℕ) → 131072 < length line → asked line ≡ asking.Wrong (codes "?")
+pub none_taken : (input : Option (List ℕ)) → IsLeft input input []
+none_taken None = tt
+none_taken (Some i) = (i, refl, refl)
+
+pub long_asked : (line : List ℕ) → 131072 < length line → asked line ≡ asking.Wrong (codes "?")
 unfolding asked
 long_asked line h =
     let test : nat_lt 131072 (length line) ≡ true = grind (arith, nat_tests) in
     rw test refl
 
 -- there are lines of any length
-long_line : (n : ℕ) → (line : List ℕ) × (n < length line)
+pub long_line : (n : ℕ) → (line : List ℕ) × (n < length line)
 long_line n = (replicate (n + 1) 0, rw length-replicate (omega arith))
 
-longer : (bytes : List ℕ) → 131072 < length (line_at bytes) → 0 < length bytes
+pub longer : (bytes : List ℕ) → 131072 < length (line_at bytes) → 0 < length bytes
 longer [] h = absurd (omega arith)
 longer (b ∷ bytes) h = omega arith
 
 -- a line that was taken is the next of the input's
-next_taken : (bytes left : List ℕ) (lines : List (List ℕ)) (line : List ℕ) → 0 < length left
+pub next_taken : (bytes left : List ℕ) (lines : List (List ℕ)) (line : List ℕ) → 0 < length left
     → line ≡ line_at left → lines_of bytes ≡ lines ++ lines_of left
     → lines_of bytes ≡ (lines ++ line ∷ []) ++ lines_of (drop_through 10 left)
 next_taken bytes left lines line some is all =
@@ -90,7 +94,7 @@ pub record Taken (input new : Option (List ℕ)) (lines : List (List ℕ)) (buff
   pub asks : asked line ≡ asked_at buffer found
   pub left : IsLeft input new (lines ++ line ∷ [])
 
-pub taken : (input rest new : Option (List ℕ)) (lines : List (List ℕ)) (buffer : List ℕ)
+unfoldable pub taken : (input rest new : Option (List ℕ)) (lines : List (List ℕ)) (buffer : List ℕ)
     (found : Line) → IsLeft input rest lines → IfSome rest (λ bytes. IsLine bytes new buffer found)
     → found ≢ End → Taken input new lines buffer found
 taken input rest new lines buffer End left is some = absurd (some refl)
@@ -323,10 +327,6 @@ module _ {S H : Type 0} (g : Ghosts S) (j : ShelfGhosts H) where
     pub left : IsLeft input rest lines
     pub told : Appends before now text
     pub answered : AreStanding g j p s k away u lines text refused
-
-  none_taken : (input : Option (List ℕ)) → IsLeft input input []
-  none_taken None = tt
-  none_taken (Some i) = (i, refl, refl)
 
   pub begun : (p : Progress) (input before : Option (List ℕ)) (s : Held S) (k : H) (away : Image)
       (u : World) → TakesCommands p → IsAt g j s k away [] [] u u

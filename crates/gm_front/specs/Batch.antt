@@ -16,7 +16,7 @@ use Rattle.gm_registry.specs.Registry.{DiskKept, StoreFailed, seen}
 use Rattle.gm_registry.specs.Replies.{AreWrittenUnder}
 use Rattle.gm_bench.specs.Benches.{progress_of, registry_of, shelf_of}
 use Rattle.gm_bench.specs.Calls.{Keep, most_rows}
-use Rattle.gm_bench.specs.Phases.{TakesCommands}
+use Rattle.gm_bench.specs.Phases.{TakesCommands, TakesNext}
 use Rattle.gm_bench.specs.declared.bench.Bench.{Bench}
 use Rattle.gm_bench.specs.declared.fault.BenchFault.{BenchFault}
 use Rattle.gm_bench.specs.declared.fault.BenchFault.TheVariants.{Disk, Store, Unreadable}
@@ -89,6 +89,13 @@ progress_at before (Stopped fault) = Failed
 abbrev pub IsFarAtEnd : Progress → Progress → BatchEnd → Type 0
 IsFarAtEnd before now (Ended refused) = before ≢ Failed → now ≢ Failed
 IsFarAtEnd before now (Stopped fault) = now ≡ Failed
+
+-- How far a bench is after lines, before what waits is settled: it takes the next command, or
+-- failed.
+pub record IsFarAfterLines (before now : Progress) (result : Result BatchEnd FrontFault) : Type 0
+  where
+    pub takes : TakesNext now
+    pub ended : IfOk result (IsFarAtEnd before now)
 
 -- the fault of a batch whose last command couldn't be settled
 abbrev pub unsettled_fault : Result BatchEnd FrontFault → FrontFault

@@ -6,6 +6,7 @@ pub mod Findings
 pub mod GuardedServices
 pub mod Guards
 pub mod HandedIn
+pub mod Heard
 pub mod Losses
 pub mod Outcomes
 pub mod ServedRuns

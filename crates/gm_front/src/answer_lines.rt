@@ -1,6 +1,6 @@
 //! Batches: the lines of an input, each answered before the next is read.
 
-ghost use Rattle.std.specs.Prelude.{◌≡◌, ◌≢◌, ◌<◌, ◌≤◌, ℕ, List, Option, [], IfSome, IfNone, IfOk, IfErr, OnOk, OnErr, length, take, vec_len, None};
+ghost use Rattle.std.specs.Prelude.{◌≡◌, ◌≢◌, ◌⊎◌, ◌<◌, ◌≤◌, ℕ, List, Option, Err, [], IfSome, IfNone, IfOk, IfErr, OnOk, OnErr, length, option_map, take, vec_len, None};
 ghost use Rattle.std.specs.Io.KnownBytes.{Appends, Keeps};
 ghost use Rattle.gm_metadata.specs.Images.{Image};
 ghost use Rattle.gm_state.specs.World.{World};
@@ -10,10 +10,13 @@ ghost use Rattle.gm_bench.specs.Calls.{Keep};
 ghost use Rattle.gm_bench.specs.declared.phase.Progress.TheVariants.{Failed, Ready};
 ghost use Rattle.gm_bench.specs.Phases.{TakesCommands, TakesNext};
 ghost use Rattle.gm_bench.specs.Recovering.{IsAt};
-ghost use Rattle.gm_front.specs.Batch.{AnswersBatch, AppendsFront, Batches, HandsIn, IsFarAtEnd, front_fault_number, unsettled_fault};
+ghost use Rattle.gm_front.specs.Batch.{AnswersBatch, AppendsFront, Batches, HandsIn, IsFarAfterLines, front_fault_number, unsettled_fault};
 ghost use Rattle.gm_front.specs.Closing.{KeepsClosed, end_fault};
+ghost use Rattle.gm_front.specs.Heard.{HearsBatch, handed_at};
 ghost use Rattle.gm_front.specs.Outcomes.{text_of};
+ghost use Rattle.gm_lines.specs.Input.{Fits};
 
+use crate::listener::{Listener, NoListener};
 use crate::next::ask_next;
 use crate::outcome::Outcome;
 use gm_bench::{Bench, BenchFault, Phase};
@@ -110,25 +113,15 @@ fn tell<W: Write>(alloc: Global, writer: &mut W, outcome: &Outcome<'_>) -> Resul
     }
 }
 
-/// Hears of each line of a batch, once its answer is told.
-pub trait Listener {
-    /// A line came to this. One of more than 131,072 bytes isn't handed on.
-    fn answered(&mut self, line: Option<&[u8]>, outcome: &Outcome<'_>);
-}
-
-// Hears nothing.
-#[derive(Drop)]
-struct NoListener;
-
-impl Listener for NoListener {
-    fn answered(&mut self, _line: Option<&[u8]>, _outcome: &Outcome<'_>) {}
-}
-
 // The bytes of a line that was found; none if they are more than a buffer's.
-fn bytes_of(line: &[u8], found: Line) -> Option<&[u8]> {
+fn bytes_of(line: &[u8], found: Line) -> Option<&[u8]>
+    requires room { length line.now ≡ 131072 }
+    requires fits { Fits found }
+    ensures { option_map (λ bytes. bytes.now) result ≡ handed_at line.now found }
+{
     match found {
         Line::End | Line::Long => None,
-        Line::Whole(count) => line.get(..count),
+        Line::Whole(count) => Some(&line[..count]),
     }
 }
 
@@ -175,8 +168,10 @@ fn answer_lines<R: BufRead, W: Write, S: Alter, H: Shelf, L: Listener>(
         → HandsIn S.Store H.Shelf (progress_of bench.new) (R.remaining reader.old)
         (W.contents writer.old) (W.contents writer.new)
         (registry_of bench.new) (shelf_of bench.new) away u result }
-    ensures progress { IfOk result (IsFarAtEnd (progress_of bench.old) (progress_of bench.new)) }
-    ensures phase { TakesNext (progress_of bench.new) }
+    ensures heard { HearsBatch (R.remaining reader.old)
+        (W.contents writer.old) (W.contents writer.new)
+        (L.heard listener.old) (L.heard listener.new) result }
+    ensures far { IsFarAfterLines (progress_of bench.old) (progress_of bench.new) result }
     ensures closes { KeepsClosed bench.old bench.new (end_fault result) }
     ensures keep { Keep S.Store H.Shelf (registry_of bench.old) (registry_of bench.new)
         (shelf_of bench.old) (shelf_of bench.new) }
@@ -232,7 +227,7 @@ fn settled<S: Alter, H: Shelf>(
         → Batches S.Store H.Shelf input before now
         (registry_of bench.new) (shelf_of bench.new) away u result }
     ensures phase { TakesCommands (progress_of bench.new) }
-    ensures ended { IfOk result (λ b. end ≡ Ok b) }
+    ensures ended { (result ≡ end) ⊎ (result ≡ Err (unsettled_fault end)) }
     ensures rested { OnOk result (progress_of bench.old ≢ Failed
         → progress_of bench.new ≡ Ready) }
     ensures closes { KeepsClosed bench.old bench.new None }
@@ -248,8 +243,8 @@ fn settled<S: Alter, H: Shelf>(
     }
 }
 
-/// A batch of which a listener hears, line by line. What is owed of it is
-/// what a batch owes.
+/// A batch of which a listener hears, line by line. Beside what a batch owes, the listener hears
+/// the lines in their order, and what each was told.
 pub fn heard_batch<R: BufRead, W: Write, S: Alter, H: Shelf, L: Listener>(
     alloc: Global,
     reader: &mut R,
@@ -258,8 +253,11 @@ pub fn heard_batch<R: BufRead, W: Write, S: Alter, H: Shelf, L: Listener>(
     listener: &mut L,
 ) -> Result<BatchEnd, FrontFault>
     requires { TakesCommands (progress_of bench.old) }
-    ensures { AnswersBatch S.Store H.Shelf (R.remaining reader.old)
+    ensures answers { AnswersBatch S.Store H.Shelf (R.remaining reader.old)
         (W.contents writer.old) (W.contents writer.new) bench.old bench.new result }
+    ensures heard { HearsBatch (R.remaining reader.old)
+        (W.contents writer.old) (W.contents writer.new)
+        (L.heard listener.old) (L.heard listener.new) result }
 {
     let Ok(mut line) = zeros(alloc, MAX_LINE) else {
         return Err(FrontFault::Memory);

@@ -4,7 +4,8 @@
 //! `gm_lines` takes the lines of a batch and says what each asks. `outcome.rt` says what it comes
 //! to and how that is told, `next.rt` asks it of a bench whose last command is perhaps still to be
 //! settled, and `answer_lines.rt` answers them in turn; `specs/Batch.antt` says what all of it
-//! comes to, and `laws.rt` that a batch is a part of a schedule of the bench.
+//! comes to, and `laws.rt` that a batch is a part of a schedule of the bench. A listener
+//! (`listener.rt`) hears of each line (`specs/Heard.antt`).
 //! `outcome.rt` also has the line for a loss with which a bench is opened (`specs/Losses.antt`).
 //! `guard.rt` holds a command back if images that it is about aren't as they are registered
 //! (`specs/Guards.antt`).
@@ -25,14 +26,16 @@ mod finding;
 mod guard;
 mod guarded_service;
 mod laws;
+mod listener;
 mod next;
 mod outcome;
 mod service;
 
-pub use answer_lines::{BatchEnd, FrontFault, Listener, batch, heard_batch};
+pub use answer_lines::{BatchEnd, FrontFault, batch, heard_batch};
 pub use gm_words::{WordsFault, dump_text, list_text, read_words, status_text};
 pub use guard::{Guarded, ask_guarded, in_the_way, withheld_text};
 pub use guarded_service::serve_request_guarded;
 pub use laws::{served_request_law, unless_page_law, whole_batch_law};
+pub use listener::Listener;
 pub use outcome::{Outcome, ask, loss_text};
 pub use service::{Response, Served, serve_one, serve_request, serve_request_unless_page};

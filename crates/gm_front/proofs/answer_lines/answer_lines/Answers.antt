@@ -1,5 +1,6 @@
 use Rattle.gm_front.proofs.Common.{rules, arith, ◌≡◌, ◌≢◌, ◌∙◌, ap, refl, inl, Appends, End, AppendsFront, asked_at, asked_of}
 use Rattle.std.proofs.lemmas.Option.{IfSome_then}
+use Rattle.gm_front.proofs.Heard.{heard_in_part, heard_none, heard_to_end, heard_to_stop, heard_whole, one_heard}
 use Rattle.gm_front.proofs.Turns.{begun, broken, comes_so, comes_to, far_failed, far_on, finished, front_all, goes_on, kept_before, one_more, stopped, takes_after, told_in_part, told_wholly}
 use Rattle.gm_front.proofs.answer_lines.answer_lines.Goals as goal
 
@@ -12,6 +13,7 @@ loop-init g c = record {
     count = omega arith;
     does = λ honest kept away u at. begun g.S.Store g.H.Shelf _ _ _ _ _ away u c.requires.phase at;
   };
+  heard = heard_none _ _ _;
   takes = inl c.requires.phase;
   goes_on = λ other. other;
   redone = refl;
@@ -128,6 +130,8 @@ loop-preserved g c =
             c.in-Ok.ensures.line some comes
             _ _ c.is_refused_after-refused.ensures on c.in_default-tell.ensures.ok;
       };
+      heard = one_heard _ _ _ _ _ _ _ _ _ _ _ _ _ c.loop.invariant.heard c.in-Ok.ensures.line some
+          c.in-Ok.ensures.fits c.in_default-tell.ensures.ok c.bytes_of.ensures c.answered.ensures;
       takes = takes_after c.loop.bench.progress c.ask_next-outcome.new.bench.progress
           _ c.ask_next-outcome.result c.loop.invariant.takes asked.far;
       goes_on = λ other. far_on c.loop.bench.progress c.ask_next-outcome.new.bench.progress
@@ -140,14 +144,48 @@ loop-preserved g c =
           (IfSome_then c.in-Ok.taken.next c.in-Ok.ensures.next (λ it is. is.0));
     }
 
-pub returns-in-Err-clause-phase : goal.returns-in-Err-clause-phase
-returns-in-Err-clause-phase g c =
-    takes_after c.loop.bench.progress c.ask_next-outcome.new.bench.progress
-    _ c.ask_next-outcome.result c.loop.invariant.takes
-    c.ask_next-outcome.ensures.far
+pub returns-in-Err-clause-far : goal.returns-in-Err-clause-far
+returns-in-Err-clause-far g c = record {
+  takes = takes_after c.loop.bench.progress c.ask_next-outcome.new.bench.progress
+      _ c.ask_next-outcome.result c.loop.invariant.takes
+      c.ask_next-outcome.ensures.far;
+  ended = tt;
+}
 
-pub returns-in-Failed-clause-phase : goal.returns-in-Failed-clause-phase
-returns-in-Failed-clause-phase g c =
-    takes_after c.loop.bench.progress c.ask_next-outcome.new.bench.progress
-    _ c.ask_next-outcome.result c.loop.invariant.takes
-    c.ask_next-outcome.ensures.far
+pub returns-in-Failed-clause-far : goal.returns-in-Failed-clause-far
+returns-in-Failed-clause-far g c = record {
+  takes = takes_after c.loop.bench.progress c.ask_next-outcome.new.bench.progress
+      _ c.ask_next-outcome.result c.loop.invariant.takes
+      c.ask_next-outcome.ensures.far;
+  ended = far_failed c.loop.bench.progress c.ask_next-outcome.new.bench.progress
+      _ c.ask_next-outcome.result c.ask_next-outcome.ensures.far
+      c.in-Failed.field-0 c.in-Failed.fault c.in-Failed.is;
+}
+
+pub returns-in_default-clause-heard : goal.returns-in_default-clause-heard
+returns-in_default-clause-heard g c = heard_whole _ _ _ _ _ _ _ c.loop.invariant.heard
+
+pub returns-then-eq-clause-heard : goal.returns-then-eq-clause-heard
+returns-then-eq-clause-heard g c =
+    let is_end : c.in-Ok.taken.found ≡ End = search rules in
+    heard_to_end _ _ _ _ _ _ _ c.take_line.new.line _ c.loop.invariant.heard
+    (rw is_end at c.in-Ok.ensures.line)
+
+pub returns-in_default-request_at-clause-heard : goal.returns-in_default-request_at-clause-heard
+returns-in_default-request_at-clause-heard g c =
+    heard_whole _ _ _ _ _ _ _ c.loop.invariant.heard
+
+pub returns-clause-heard : goal.returns-clause-heard
+returns-clause-heard g c = heard_whole _ _ _ _ _ _ _ c.loop.invariant.heard
+
+pub returns-in-Err-clause-heard : goal.returns-in-Err-clause-heard
+returns-in-Err-clause-heard g c =
+    heard_in_part _ _ _ _ _ _ _ _ _ c.loop.invariant.heard c.in-Err.ensures.fault
+    c.in-Err.ensures.front
+
+pub returns-in-Failed-clause-heard : goal.returns-in-Failed-clause-heard
+returns-in-Failed-clause-heard g c =
+    let some : c.in-Ok.taken.found ≢ End = search rules in
+    heard_to_stop _ _ _ _ _ _ _
+    (one_heard _ _ _ _ _ _ _ _ _ _ _ _ _ c.loop.invariant.heard c.in-Ok.ensures.line some
+    c.in-Ok.ensures.fits c.in_default-tell.ensures.ok c.bytes_of.ensures c.answered.ensures)

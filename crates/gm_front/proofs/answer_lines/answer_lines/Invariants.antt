@@ -1,4 +1,5 @@
 use Rattle.gm_front.proofs.Common.{◌≡◌, ◌≢◌, IfSome, Failed, TakesNext, IsAhead}
+use Rattle.gm_front.proofs.Heard.{HeardSoFar}
 use Rattle.gm_front.proofs.Turns.{Going}
 use Rattle.gm_front.proofs.answer_lines.answer_lines.Given as goal
 
@@ -8,6 +9,9 @@ invariant-loop g l = record {
       (g.R.Read.remaining l.fn.reader) (g.R.Read.remaining l.reader)
       (g.W.Write.contents l.fn.writer) (g.W.Write.contents l.writer) l.fn.bench.media.registry
       l.bench.media.registry l.fn.bench.media.shelf l.bench.media.shelf l.refused;
+  heard : HeardSoFar (g.R.Read.remaining l.fn.reader) (g.R.Read.remaining l.reader)
+      (g.W.Write.contents l.fn.writer) (g.W.Write.contents l.writer)
+      (g.L.Listener.heard l.fn.listener) (g.L.Listener.heard l.listener);
   takes : TakesNext l.bench.progress;
   goes_on : l.fn.bench.progress ≢ Failed → l.bench.progress ≢ Failed;
   redone : l.bench.redone ≡ l.fn.bench.redone;
