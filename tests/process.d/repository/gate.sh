@@ -83,7 +83,7 @@ packages=$(sed -n "s/^packages='\(.*\)'/\1/p" "$top/tools/test-needs")
 [ -n "$packages" ] && grep -qF "apt-get install $packages" "$top/README.md" && pass 'README gives the line for Debian' ||
     fail 'README gives the line for Debian' "apt-get install $packages"
 
-# ---- the pages agree on how many wrong bodies are tried, and by which kit
+# ---- the pages agree on how many wrong bodies are tried, and by which kits
 
 edits=$(find "$top/crates" -path '*/must-fail/*.edit' | wc -l)
 [ "$edits" -le 120 ] && pass 'there are 120 edits at most' || fail 'there are 120 edits at most' "there are $edits"
@@ -91,7 +91,8 @@ for page in docs/PROOF.md docs/GATE.md CONTRIBUTING.md; do
     tr '\n' ' ' <"$top/$page" >"$work/page"
     grep -q '120 at most' "$work/page" && pass "$page has the bound of edits" || fail "$page has the bound of edits" 'it has not'
     kits=$(grep -o 'rattle-kit-[0-9a-z]*' "$work/page" | LC_ALL=C sort -u | tr '\n' ' ')
-    [ "$kits" = 'rattle-kit-13f ' ] && pass "$page has the kit" || fail "$page has the kit" "it has '$kits'"
+    [ "$kits" = 'rattle-kit-13b rattle-kit-13f ' ] && pass "$page has the kits" ||
+        fail "$page has the kits" "it has '$kits'"
 done
 for page in docs/PROOF.md docs/GATE.md; do
     grep -q "\<$edits edits" "$top/$page" && pass "$page has their number" || fail "$page has their number" "there are $edits"
