@@ -46,7 +46,11 @@ fn try_serve<R: Read, W: Write, S: Alter, H: Shelf>(
         Phase::Pending | Phase::Applied => panic!(rt; "a request in another phase"),
     };
     let failed = peer.has_failed();
-    must(rt, failed == (served == Err(FrontFault::Read)), "a peer that failed is told otherwise");
+    must(
+        rt,
+        failed == (served == Err(FrontFault::Read)),
+        "a peer that failed is told otherwise",
+    );
     served
 }
 
