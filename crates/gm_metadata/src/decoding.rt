@@ -4,11 +4,12 @@ ghost use Rattle.std.specs.Prelude.{◌≡◌, ◌==◌, ◌+◌, ◌≤◌, ℕ
 ghost use Rattle.byteorder.specs.Endian.{little_number};
 ghost use Rattle.gm_metadata.specs.declared.metadata.Metadata.{Metadata};
 ghost use Rattle.gm_metadata.specs.declared.fault.DecodeFault.{DecodeFault};
-ghost use Rattle.gm_metadata.specs.Reading.{has_hash, is_provider_field, provider_in, settings_of, said_in, reading_of, decode_of, version_read};
+ghost use Rattle.gm_metadata.specs.Reading.{has_hash, is_provider_field, provider_in, settings_of, said_in, encoded, reading_of, decode_of, version_read};
 ghost use Rattle.gm_metadata.specs.Sector.{bytes_at, number_at, carries, IsMetadata, Bears, BearsIn, SaidIn, Cause};
 ghost use Rattle.gm_metadata.specs.Versions.{version_number, kept_size};
 ghost use Rattle.gm_metadata.specs.declared.decoding.Reading.{Reading};
 ghost use Rattle.gm_metadata.specs.declared.version.Version as versions;
+ghost use Rattle.gm_metadata.specs.declared.version.Version.TheVariants.{Four};
 
 use crate::balance::Balance;
 use crate::encoding::{MAGIC, SECTOR_SIZE};
@@ -232,3 +233,10 @@ pub fn version_of(sector: &[u8; 512]) -> Option<u32>
 {
     version_read(sector)
 }
+
+/// What is encoded is read again, and it is of version 4.
+pub fn encoded_is_read()
+    ensures metadata { (m : Metadata) → IsMetadata m → decode_of (encoded m) ≡ Ok m }
+    ensures version { (m : Metadata) → IsMetadata m
+        → reading_of (encoded m) ≡ Ok (record { version = Four; metadata = m }) }
+{}

@@ -1,12 +1,11 @@
 //! What holds of all sectors and metadata: laws, each the contract of a function that does nothing.
 
-ghost use Rattle.std.specs.Prelude.{◌≡◌, ℕ, List, Ok, length};
+ghost use Rattle.std.specs.Prelude.{◌≡◌, ℕ, List, length};
 ghost use Rattle.gm_metadata.specs.declared.metadata.Metadata.{Metadata};
 ghost use Rattle.gm_metadata.specs.declared.version.Version.{Version};
-ghost use Rattle.gm_metadata.specs.declared.version.Version.TheVariants.{Four};
 ghost use Rattle.gm_metadata.specs.Sector.{IsMetadata, Spells, BearsIn, Full};
 ghost use Rattle.gm_metadata.specs.Versions.{CanSay};
-ghost use Rattle.gm_metadata.specs.Reading.{spelling, encoded, reading_of, decode_of};
+ghost use Rattle.gm_metadata.specs.Reading.{spelling, encoded};
 
 /// No two metadata have one spelling, in whichever versions; and metadata have one spelling in each
 /// version that can say them.
@@ -26,11 +25,4 @@ pub fn one_sector()
     ensures is_full { (m : Metadata) → IsMetadata m → Full (encoded m) m }
     ensures no_other { (m : Metadata) (x : List ℕ) → Full x m → x ≡ encoded m }
     ensures length_is { (m : Metadata) → IsMetadata m → length (encoded m) ≡ 512 }
-{}
-
-/// What is encoded is read again, and it is of version 4.
-pub fn encoded_is_read()
-    ensures metadata { (m : Metadata) → IsMetadata m → decode_of (encoded m) ≡ Ok m }
-    ensures version { (m : Metadata) → IsMetadata m
-        → reading_of (encoded m) ≡ Ok (record { version = Four; metadata = m }) }
 {}

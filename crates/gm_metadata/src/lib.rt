@@ -18,12 +18,12 @@ mod metadata;
 mod version;
 
 pub use balance::Balance;
-pub use decoding::{Reading, carries_metadata, decode, read_sector, version_of};
+pub use decoding::{Reading, carries_metadata, decode, encoded_is_read, read_sector, version_of};
 pub use encoding::{SECTOR_SIZE, encode};
 pub use equality::same;
 pub use fault::DecodeFault;
 pub use flags::{DiskFlags, MirrorFlags};
 pub use label::{Label, is_label_byte};
-pub use laws::{encoded_is_read, one_sector, one_spelling};
+pub use laws::{one_sector, one_spelling};
 pub use metadata::Metadata;
 pub use version::Version;

@@ -1,7 +1,11 @@
 //! The metadata of a component, from the records alone. Nothing here takes memory.
 
 ghost use Rattle.std.specs.Prelude.{◌≡◌};
-ghost use Rattle.gm_state.specs.Records.{IsState};
+ghost use Rattle.gm_metadata.specs.Sector.{IsMetadata};
+ghost use Rattle.gm_state.specs.declared.records.Component.{Component};
+ghost use Rattle.gm_state.specs.declared.records.Mirror.{Mirror};
+ghost use Rattle.gm_state.specs.Intents.{IsOf};
+ghost use Rattle.gm_state.specs.Records.{Records, IsState};
 ghost use Rattle.gm_state.specs.Lookups.{metadata, metadata_of, with_dirty, dirty_metadata_of};
 
 use crate::records::{Component, Mirror};
@@ -65,3 +69,9 @@ pub fn dirty_metadata_of(state: &State, provider: Label) -> Option<Metadata>
     let mirror = state.mirror(component.mirror)?;
     Some(with_dirty(&metadata(&mirror, &component)))
 }
+
+/// What the rules let a component's metadata be fits the fields of a sector.
+pub fn metadata_fits()
+    ensures { (s : Records) (m : Mirror) (k : Component) → IsState s → IsOf s m k
+        → IsMetadata (metadata m k) }
+{}

@@ -1,29 +1,14 @@
 //! What holds of all records and worlds: laws, each the contract of a function that does nothing.
 
-ghost use Rattle.std.specs.Prelude.{◌≡◌, ℕ, Bool, List};
+ghost use Rattle.std.specs.Prelude.{◌≡◌, ℕ, Bool};
 ghost use Rattle.gm_metadata.specs.Images.{Image, SameThere};
-ghost use Rattle.gm_metadata.specs.Sector.{IsMetadata};
 ghost use Rattle.gm_state.specs.declared.intents.Reply.{Reply};
 ghost use Rattle.gm_state.specs.declared.records.Component.{Component};
 ghost use Rattle.gm_state.specs.declared.records.Disk.TheVariants.{InSync, Copying};
 ghost use Rattle.gm_state.specs.declared.records.Mirror.{Mirror};
 ghost use Rattle.gm_state.specs.Intents.{IsOf};
-ghost use Rattle.gm_state.specs.Lookups.{metadata};
-ghost use Rattle.gm_state.specs.Records.{Records, IsState, IsStateOf};
 ghost use Rattle.gm_state.specs.Rows.{mirror_row, component_row, answer_row, copied_of, total_of};
 ghost use Rattle.gm_state.specs.World.{Answered, AnswerFits, ReplyFits, World, Sound, Whole, Below, Claims};
-
-/// What the rules let a component's metadata be fits the fields of a sector.
-pub fn metadata_fits()
-    ensures { (s : Records) (m : Mirror) (k : Component) → IsState s → IsOf s m k
-        → IsMetadata (metadata m k) }
-{}
-
-/// Records have one order as a state.
-pub fn one_state()
-    ensures { (mirrors : List Mirror) (components : List Component) (s t : Records)
-        → IsStateOf mirrors components s → IsStateOf mirrors components t → s ≡ t }
-{}
 
 /// A row says its record: no two records have one row.
 pub fn one_row()

@@ -19,19 +19,19 @@ mod sizes;
 mod state;
 mod states;
 
-pub use component_metadata::{dirty_metadata_of, metadata, metadata_of};
+pub use component_metadata::{dirty_metadata_of, metadata, metadata_fits, metadata_of};
 pub use copy_source::source;
 pub use gm_commands::{
     BalanceWord, Command, NewComponent, NewMirror, Preference, Providers, Sectors, Settings, Slice,
     is_key, words_of,
 };
 pub use intents::{Intent, Reply};
-pub use laws::{metadata_fits, one_reply, one_row, one_state, sound_claims, sound_data};
+pub use laws::{one_reply, one_row, sound_claims, sound_data};
 pub use readable_intents::are_readable;
 pub use records::{Component, Disk, Mirror};
 pub use rules::{MAX_COMPONENTS, MAX_MIRRORS, MAX_SECTORS};
 pub use sizes::{bytes_of, sectors_of};
-pub use state::{State, put};
+pub use state::{State, one_state, put};
 pub use states::{
     ComponentState, MirrorState, active_count, component_state, mirror_state, state_among, state_by,
 };

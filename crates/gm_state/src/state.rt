@@ -4,6 +4,7 @@ ghost use Rattle.std.specs.Prelude.{◌≡◌, ◌≤◌, [], List, Option, Some
 ghost use Rattle.std.specs.List.{prefix_len};
 ghost use Rattle.gm_metadata.specs.Images.{same_label};
 ghost use Rattle.gm_state.specs.declared.records.Component.{Component};
+ghost use Rattle.gm_state.specs.declared.records.Mirror.{Mirror};
 ghost use Rattle.gm_lists.specs.Ordered.{Has, label_lt, put};
 ghost use Rattle.gm_state.specs.Records.{Records, IsState, IsStateOf, members, provider};
 ghost use Rattle.gm_state.specs.Lookups.{mirror_of, component_of};
@@ -155,3 +156,9 @@ impl State {
         &self.components
     }
 }
+
+/// Records have one order as a state.
+pub fn one_state()
+    ensures { (mirrors : List Mirror) (components : List Component) (s t : Records)
+        → IsStateOf mirrors components s → IsStateOf mirrors components t → s ≡ t }
+{}

@@ -1,5 +1,5 @@
 use Rattle.gm_metadata.proofs.Read.{encoded_decodes, encoded_reads}
-use Rattle.gm_metadata.proofs.laws.encoded_is_read.Goals as goal
+use Rattle.gm_metadata.proofs.decoding.encoded_is_read.Goals as goal
 
 pub returns-clause-metadata : goal.returns-clause-metadata
 returns-clause-metadata c = encoded_decodes

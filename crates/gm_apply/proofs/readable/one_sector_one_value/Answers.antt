@@ -1,5 +1,5 @@
 use Rattle.gm_apply.proofs.Values.{same_value}
-use Rattle.gm_apply.proofs.laws.one_sector_one_value.Goals as goal
+use Rattle.gm_apply.proofs.readable.one_sector_one_value.Goals as goal
 
 pub returns : goal.returns
 returns c = λ t r o q j may one other.

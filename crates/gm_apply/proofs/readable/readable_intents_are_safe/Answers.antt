@@ -1,5 +1,5 @@
 use Rattle.gm_apply.proofs.Common.{[], no_dirt_left, in_order, lent, copies_data}
-use Rattle.gm_apply.proofs.laws.readable_intents_are_safe.Goals as goal
+use Rattle.gm_apply.proofs.readable.readable_intents_are_safe.Goals as goal
 
 pub returns-clause-safe : goal.returns-clause-safe
 returns-clause-safe c = λ t may. record {

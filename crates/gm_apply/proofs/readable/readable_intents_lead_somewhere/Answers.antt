@@ -1,5 +1,5 @@
 use Rattle.gm_apply.proofs.Values.{lead_somewhere}
-use Rattle.gm_apply.proofs.laws.readable_intents_lead_somewhere.Goals as goal
+use Rattle.gm_apply.proofs.readable.readable_intents_lead_somewhere.Goals as goal
 
 pub returns : goal.returns
 returns c = λ t x may.
