@@ -44,7 +44,7 @@ pub use Rattle.gm_front.specs.Findings.{Fails, LeavesDemand, ComesToFinding, fau
 pub use Rattle.gm_front.specs.GuardedServices.{FindsUnlessWithheld, FoundBehindLook, HadNothing, HasNothingInTheWay, ServesOrWithholds, TellsOf}
 pub use Rattle.gm_front.specs.Guards.{OnlyLooks, StoodInTheWay}
 pub use Rattle.gm_front.specs.HandedIn.{AreCarriedBehind, IsAtRestBehind, IsNextStop, IsStoppedAt, IsStoppedSettling, with_calls}
-pub use Rattle.gm_front.specs.Heard.{Heard, HearsBatch, Hears, WasTold, answers_heard, handed_at, handed_on}
+pub use Rattle.gm_front.specs.Heard.{AreHeard, Heard, HearsBatch, Hears, WasTold, answers_heard, handed_at, handed_on}
 pub use Rattle.gm_front.specs.Outcomes.{IsAnsweredNext, ComesTo, IsFarAfter, IsWaiting, NextComesTo, is_refused, text_of}
 pub use Rattle.gm_front.specs.ServedRuns.{calls_in, IsStoppedIn, IsServed, ServedLeaves, ServedUnlessPage}
 pub use Rattle.gm_front.specs.Services.{TurnsAway, bytes_of, code_told, page_told, Serves, Tells, ServesUnlessPage}

@@ -1,12 +1,12 @@
 -- What a listener hears of a batch, one line after the other.
-use Rattle.gm_front.proofs.Common.{◌≡◌, ◌≢◌, ◌∙◌, ◌⊎◌, inl, inr, ◌<◌, ◌≤◌, nat_lt, ℕ, Bool, true, false, refl, sym, ap, subst, arith, List, [], ◌∷◌, ◌++◌, length, map, take, min, Option, Some, None, Result, Ok, Err, IfOk, IfSome, append-nil, append_assoc, length-take, map-append, Appends, Appends-nil, Appends-trans, BenchFault, BatchEnd, FrontFault, Memory, Read, Write, End, Whole, Long, IsLine, line_at, AppendsFront, AreFirst, unsettled_fault, Heard, HearsBatch, Hears, WasTold, answers_heard, handed_at, handed_on}
+use Rattle.gm_front.proofs.Common.{◌≡◌, ◌≢◌, ◌∙◌, ◌⊎◌, inl, inr, ◌<◌, ◌≤◌, nat_lt, ℕ, Bool, true, false, refl, sym, ap, subst, arith, List, [], ◌∷◌, ◌++◌, length, map, take, min, Option, Some, None, Result, Ok, Err, IfOk, IfSome, append-nil, append_assoc, length-take, map-append, Appends, Appends-nil, Appends-trans, BenchFault, BatchEnd, FrontFault, Memory, Read, Write, End, Whole, Long, IsLine, line_at, AppendsFront, AreFirst, unsettled_fault, Heard, HearsBatch, Hears, AreHeard, WasTold, answers_heard, handed_at, handed_on}
 use Rattle.std.proofs.lemmas.Bool.Decides.{nat_tests}
 use Rattle.std.proofs.lemmas.List.Concat.{flat_map-append}
 use Rattle.gm_lines.specs.Input.{Fits}
 use Rattle.gm_lines.specs.declared.lines.Line.{Line}
 use Rattle.gm_front.specs.declared.answer_lines.BatchEnd.TheVariants as end
 use Rattle.gm_front.proofs.Settled.{all_first}
-use Rattle.gm_front.proofs.Turns.{IsLeft, all_taken, first_of_left, long_line, none_taken, taken}
+use Rattle.gm_front.proofs.Turns.{IsLeft, all_taken, first_of_left, front_all, long_line, none_taken, taken}
 
 short_handed : (line : List ℕ) → length line ≤ 131072 → handed_on line ≡ Some line
 short_handed line short =
@@ -18,9 +18,6 @@ long_handed line long =
     let test : nat_lt 131072 (length line) ≡ true = grind (arith, nat_tests) in
     rw test refl
 
-short_front : (n : ℕ) (line : List ℕ) → n ≤ 131072 → length (take n line) ≤ 131072
-short_front n line fits = rw length-take (omega (arith, fits))
-
 -- a line that was taken is handed on as it was found
 handed_taken : (input rest new : Option (List ℕ)) (lines : List (List ℕ)) (buffer : List ℕ)
     (found : Line) (left : IsLeft input rest lines)
@@ -30,12 +27,12 @@ handed_taken : (input rest new : Option (List ℕ)) (lines : List (List ℕ)) (b
 unfolding taken
 handed_taken input rest new lines buffer End left is some fits = absurd (some refl)
 handed_taken None rest new lines buffer (Whole n) left is some fits =
-    short_handed (take n buffer) (short_front n buffer fits)
+    short_handed (take n buffer) (rw length-take (omega (arith, fits)))
 handed_taken None rest new lines buffer Long left is some fits =
     let long = long_line 131072 in
     long_handed long.0 long.1
 handed_taken (Some i) rest new lines buffer (Whole n) left is some fits =
-    short_handed (take n buffer) (short_front n buffer fits)
+    short_handed (take n buffer) (rw length-take (omega (arith, fits)))
 handed_taken (Some i) rest new lines buffer Long left is some fits =
     let line = rw left.1 at is in
     long_handed (line_at left.0) line.0
@@ -88,96 +85,76 @@ heard_none input before old = record {
   told = Appends-nil before;
 }
 
-pub one_heard : (input rest new before mid now : Option (List ℕ))
-    (old was then : Option (List Heard)) (buffer text : List ℕ) (found : Line)
-    (one : Option (List ℕ)) → HeardSoFar input rest before mid old was
-    → IfSome rest (λ bytes. IsLine bytes new buffer found) → found ≢ End → Fits found
-    → Appends mid now text → one ≡ handed_at buffer found
-    → Hears was then ((record { line = one; answer = text }) ∷ [])
-    → HeardSoFar input new before now old then
-one_heard input rest new before mid now old was then buffer text found one so is some fits wrote
-    handed hears =
-    let line = taken input rest new so.lines buffer found so.left is some in
-    let it : Heard = record { line = one; answer = text } in
-    let same : one ≡ handed_on line.line =
-    handed ∙ sym (handed_taken input rest new so.lines buffer found so.left is some fits) in
-    record {
-      lines = so.lines ++ line.line ∷ [];
-      heard = so.heard ++ it ∷ [];
-      left = line.left;
-      hears = hears_more old was then so.heard (it ∷ []) so.hears hears;
-      handed = map-append (λ (h : Heard). h.line) so.heard (it ∷ [])
-          ∙ ap (λ (ls : List (Option (List ℕ))). ls ++ one ∷ []) so.handed
-          ∙ ap (λ (l : Option (List ℕ)). map handed_on so.lines ++ l ∷ []) same
-          ∙ sym (map-append handed_on so.lines (line.line ∷ []));
-      told = subst (Appends before now) (sym (answers_more so.heard it))
-          (Appends-trans before mid now (answers_heard so.heard) text so.told wrote);
-    }
+module _ (input rest before mid : Option (List ℕ)) (old new : Option (List Heard))
+    (so : HeardSoFar input rest before mid old new) where
+  -- and one line more
+  pub one_heard : (after now : Option (List ℕ)) (then : Option (List Heard))
+      (buffer text : List ℕ) (found : Line) (one : Option (List ℕ))
+      → IfSome rest (λ bytes. IsLine bytes after buffer found) → found ≢ End → Fits found
+      → Appends mid now text → one ≡ handed_at buffer found
+      → Hears new then ((record { line = one; answer = text }) ∷ [])
+      → HeardSoFar input after before now old then
+  one_heard after now then buffer text found one is some fits wrote handed hears =
+      let line = taken input rest after so.lines buffer found so.left is some in
+      let it : Heard = record { line = one; answer = text } in
+      let same : one ≡ handed_on line.line =
+      handed ∙ sym (handed_taken input rest after so.lines buffer found so.left is some fits) in
+      record {
+        lines = so.lines ++ line.line ∷ [];
+        heard = so.heard ++ it ∷ [];
+        left = line.left;
+        hears = hears_more old new then so.heard (it ∷ []) so.hears hears;
+        handed = map-append (λ (h : Heard). h.line) so.heard (it ∷ [])
+            ∙ ap (λ (ls : List (Option (List ℕ))). ls ++ one ∷ []) so.handed
+            ∙ ap (λ (l : Option (List ℕ)). map handed_on so.lines ++ l ∷ []) same
+            ∙ sym (map-append handed_on so.lines (line.line ∷ []));
+        told = subst (Appends before now) (sym (answers_more so.heard it))
+            (Appends-trans before mid now (answers_heard so.heard) text so.told wrote);
+      }
 
--- an answer that wasn't told isn't heard
-pub heard_in_part : (input rest before mid now : Option (List ℕ)) (old new : Option (List Heard))
-    (text : List ℕ) (e : FrontFault) → HeardSoFar input rest before mid old new
-    → (e ≡ Read → ⊥) → AppendsFront mid now text → HearsBatch input before now old new (Err e)
-heard_in_part input rest before mid now old new text e so read wrote = record {
-  lines = so.lines;
-  heard = so.heard;
-  hears = so.hears;
-  read = first_of_left input rest so.lines so.left;
-  handed = so.handed;
-  told = by e read;
-}
-  where
-    by : (e : FrontFault) → (e ≡ Read → ⊥)
-        → WasTold before now (Err e) (answers_heard so.heard)
-    by Read not = absurd (not refl)
-    by Memory not = all_and_front before mid now (answers_heard so.heard) text so.told wrote
-    by Write not = all_and_front before mid now (answers_heard so.heard) text so.told wrote
+  ends_heard : (now : Option (List ℕ)) (end : Result BatchEnd FrontFault)
+      → AreHeard input end so.lines → WasTold before now end (answers_heard so.heard)
+      → HearsBatch input before now old new end
+  ends_heard now end read told = record {
+    lines = so.lines;
+    heard = so.heard;
+    hears = so.hears;
+    read = read;
+    handed = so.handed;
+    told = told;
+  }
 
--- all that was told is heard
-pub heard_whole : (input rest before now : Option (List ℕ)) (old new : Option (List Heard))
-    (e : FrontFault) → HeardSoFar input rest before now old new
-    → HearsBatch input before now old new (Err e)
-heard_whole input rest before now old new e so = record {
-  lines = so.lines;
-  heard = so.heard;
-  hears = so.hears;
-  read = first_of_left input rest so.lines so.left;
-  handed = so.handed;
-  told = by e;
-}
-  where
-    more : (rest : List ℕ) × Appends before now (answers_heard so.heard ++ rest)
-    more = ([], subst (Appends before now) (sym (append-nil (answers_heard so.heard))) so.told)
+  are_first : AreFirst input so.lines
+  are_first = first_of_left input rest so.lines so.left
 
-    by : (e : FrontFault) → WasTold before now (Err e) (answers_heard so.heard)
-    by Read = so.told
-    by Memory = more
-    by Write = more
+  -- an answer that wasn't told isn't heard
+  pub heard_in_part : (now : Option (List ℕ)) (text : List ℕ) (e : FrontFault)
+      → (e ≡ Read → Appends before now (answers_heard so.heard)) → AppendsFront mid now text
+      → HearsBatch input before now old new (Err e)
+  heard_in_part now text Read all wrote = ends_heard now (Err Read) are_first (all refl)
+  heard_in_part now text Memory all wrote =
+      ends_heard now (Err Memory) are_first (all_and_front before mid now _ text so.told wrote)
+  heard_in_part now text Write all wrote =
+      ends_heard now (Err Write) are_first (all_and_front before mid now _ text so.told wrote)
 
-pub heard_to_end : (input rest new before now : Option (List ℕ)) (old then : Option (List Heard))
-    (buffer : List ℕ) (refused : Bool) → HeardSoFar input rest before now old then
-    → IfSome rest (λ bytes. IsLine bytes new buffer End)
-    → HearsBatch input before now old then (Ok (end.Ended refused))
-heard_to_end input rest new before now old then buffer refused so is = record {
-  lines = so.lines;
-  heard = so.heard;
-  hears = so.hears;
-  read = all_taken input rest new so.lines buffer so.left is;
-  handed = so.handed;
-  told = so.told;
-}
+  -- all that was told is heard
+  pub heard_whole : (e : FrontFault) → HearsBatch input before mid old new (Err e)
+  heard_whole e = heard_in_part mid [] e (λ _. so.told) (front_all mid mid [] (Appends-nil mid))
 
-pub heard_to_stop : (input rest before now : Option (List ℕ)) (old new : Option (List Heard))
-    (fault : BenchFault) → HeardSoFar input rest before now old new
-    → HearsBatch input before now old new (Ok (end.Stopped fault))
-heard_to_stop input rest before now old new fault so = record {
-  lines = so.lines;
-  heard = so.heard;
-  hears = so.hears;
-  read = first_of_left input rest so.lines so.left;
-  handed = so.handed;
-  told = so.told;
-}
+  pub heard_to_end : (after : Option (List ℕ)) (buffer : List ℕ) (refused : Bool)
+      → IfSome rest (λ bytes. IsLine bytes after buffer End)
+      → HearsBatch input before mid old new (Ok (end.Ended refused))
+  heard_to_end after buffer refused is = ends_heard mid (Ok (end.Ended refused))
+      (all_taken input rest after so.lines buffer so.left is) so.told
+
+  pub heard_to_stop : (fault : BenchFault)
+      → HearsBatch input before mid old new (Ok (end.Stopped fault))
+  heard_to_stop fault = ends_heard mid (Ok (end.Stopped fault)) are_first so.told
+
+first_heard : (input : Option (List ℕ)) (lines : List (List ℕ)) (b : BatchEnd)
+    → AreHeard input (Ok b) lines → AreFirst input lines
+first_heard input lines (end.Ended refused) are = all_first input lines are
+first_heard input lines (end.Stopped fault) are = are
 
 -- the same, whether what waits was settled or not
 pub heard_anyhow : (input before now : Option (List ℕ)) (old new : Option (List Heard))
@@ -186,28 +163,17 @@ pub heard_anyhow : (input before now : Option (List ℕ)) (old new : Option (Lis
     → HearsBatch input before now old new after
 heard_anyhow input before now old new given after it (inl is) =
     subst (HearsBatch input before now old new) (sym is) it
-heard_anyhow input before now old new given after it (inr is) =
-    subst (HearsBatch input before now old new) (sym is) (by given it)
-  where
-    by : (given : Result BatchEnd FrontFault) → HearsBatch input before now old new given
-        → HearsBatch input before now old new (Err (unsettled_fault given))
-    by (Ok (end.Ended refused)) it = record {
+heard_anyhow input before now old new (Err fault) after it (inr is) =
+    subst (HearsBatch input before now old new) (sym is) it
+heard_anyhow input before now old new (Ok b) after it (inr is) =
+    subst (HearsBatch input before now old new) (sym is) (record {
       lines = it.lines;
       heard = it.heard;
       hears = it.hears;
-      read = all_first input it.lines it.read;
+      read = first_heard input it.lines b it.read;
       handed = it.handed;
       told = it.told;
-    }
-    by (Ok (end.Stopped fault)) it = record {
-      lines = it.lines;
-      heard = it.heard;
-      hears = it.hears;
-      read = it.read;
-      handed = it.handed;
-      told = it.told;
-    }
-    by (Err fault) it = it
+    })
 
 -- a batch that ended did so before what waits was settled
 pub only_ended : (given after : Result BatchEnd FrontFault)

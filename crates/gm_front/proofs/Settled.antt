@@ -1,5 +1,5 @@
 -- The end of a batch, after what was still to be settled is settled.
-use Rattle.gm_front.proofs.Common.{◌≡◌, ◌∙◌, inl, inr, ℕ, Bool, List, [], Option, Some, None, Result, Ok, Err, IfOk, refl, sym, ap, subst, append-nil, Ghosts, Held, Image, World, Bench, Progress, Ready, Pending, Applied, Failed, SettleDoes, SettleLeaves, TakesCommands, TakesNext, phase_of, rest_stands, BatchEnd, FrontFault, BenchFault, end_fault, AreAnswered, AreFirst, AreLines, AreStanding, AreUnsettled, Batches, HandsIn, IsFarAtEnd, progress_at, unsettled_fault}
+use Rattle.gm_front.proofs.Common.{◌≡◌, ◌∙◌, inl, inr, ℕ, Bool, List, [], Option, Some, None, Result, Ok, Err, IfOk, refl, sym, ap, subst, append-nil, Ghosts, Held, Image, World, Bench, Progress, Ready, Pending, Applied, Failed, SettleDoes, SettleLeaves, TakesCommands, TakesNext, phase_of, rest_stands, BatchEnd, FrontFault, BenchFault, end_fault, AreAnswered, AreFirst, AreLines, AreStanding, AreUnsettled, Batches, Breaks, Ends, HandsIn, IsFarAtEnd, progress_at, unsettled_fault}
 use Rattle.std.specs.Prelude.{OnOk}
 use Rattle.gm_shelf.specs.declared.shelf.Shelf.{Ghosts as ShelfGhosts}
 use Rattle.gm_bench.specs.declared.answer.Work.{Work}
@@ -59,116 +59,93 @@ pub all_first : (input : Option (List ℕ)) (lines : List (List ℕ)) → AreLin
 all_first None lines are = tt
 all_first (Some bytes) lines are = ([], are ∙ sym (append-nil lines))
 
+-- lines that ended, or broke off, of which more is known
+ends_by : {A B : List (List ℕ) → List ℕ → Bool → Type 0} {input before now : Option (List ℕ)}
+    {refused : Bool} → ((ls : List (List ℕ)) (t : List ℕ) (b : Bool) → A ls t b → B ls t b)
+    → Ends input before now A refused → Ends input before now B refused
+ends_by more it = record {
+  lines = it.lines;
+  text = it.text;
+  read = it.read;
+  told = it.told;
+  answered = more _ _ _ it.answered;
+}
+
+breaks_by : {A B : List (List ℕ) → List ℕ → Bool → Type 0} {input : Option (List ℕ)}
+    {Told : List ℕ → Type 0} → ((ls : List (List ℕ)) (t : List ℕ) (b : Bool) → A ls t b → B ls t b)
+    → Breaks input Told A → Breaks input Told B
+breaks_by more it = record {
+  lines = it.lines;
+  text = it.text;
+  refused = it.refused;
+  read = it.read;
+  told = it.told;
+  answered = more _ _ _ it.answered;
+}
+
 module _ {S H : Type 0} (g : Ghosts S) (j : ShelfGhosts H)
     (input before now : Option (List ℕ)) (r : Held S) (h : H) (away : Image) (u : World) where
-  -- nothing is to be settled
-  pub ends_rest : (p : Progress) → TakesCommands p → (ended : Result BatchEnd FrontFault)
-      → HandsIn g j p input before now r h away u ended
-      → Batches g j input before now r h away u ended
-  ends_rest p takes ended it = by ended it
-    where
-      rest : (lines : List (List ℕ)) (text : List ℕ) (refused : Bool)
-          → AreStanding g j p r h away u lines text refused
-          → AreAnswered g j r h away u lines text refused
-      rest lines text refused is = record {
-        world = is.world;
-        answers = is.answers;
-        at = rest_stands g j p r h away is.before is.world takes is.stands;
-      }
+  module _ (p : Progress) (takes : TakesCommands p) where
+    rest_answered : (lines : List (List ℕ)) (text : List ℕ) (refused : Bool)
+        → AreStanding g j p r h away u lines text refused
+        → AreAnswered g j r h away u lines text refused
+    rest_answered lines text refused is = record {
+      world = is.world;
+      answers = is.answers;
+      at = rest_stands g j p r h away is.before is.world takes is.stands;
+    }
 
-      by : (ended : Result BatchEnd FrontFault)
-          → HandsIn g j p input before now r h away u ended
-          → Batches g j input before now r h away u ended
-      by (Ok (end.Ended refused)) it = record {
-        lines = it.lines;
-        text = it.text;
-        read = it.read;
-        told = it.told;
-        answered = rest it.lines it.text refused it.answered;
-      }
-      by (Ok (end.Stopped fault)) it = it.1
-      by (Err fault) (inl it) = inl (record {
-        lines = it.lines;
-        text = it.text;
-        refused = it.refused;
-        read = it.read;
-        told = it.told;
-        answered = rest it.lines it.text it.refused it.answered;
-      })
-      by (Err fault) (inr (f, is, stops)) = inr (inl (f, stops))
+    -- nothing is to be settled
+    pub ends_rest : (ended : Result BatchEnd FrontFault)
+        → HandsIn g j p input before now r h away u ended
+        → Batches g j input before now r h away u ended
+    ends_rest (Ok (end.Ended refused)) it = ends_by rest_answered it
+    ends_rest (Ok (end.Stopped fault)) it = it.1
+    ends_rest (Err fault) (inl it) = inl (breaks_by rest_answered it)
+    ends_rest (Err fault) (inr (f, is, stops)) = inr (inl (f, stops))
 
   module _ (work : Work) (s : Held S) where
+    settled_answered : SettleDoes g j r s h work → (lines : List (List ℕ)) (text : List ℕ)
+        (refused : Bool) → AreStanding g j (Applied work) r h away u lines text refused
+        → AreAnswered g j s h away u lines text refused
+    settled_answered does lines text refused is = record {
+      world = is.world;
+      answers = is.answers;
+      at = does away is.before is.world is.stands.0 is.stands.1;
+    }
+
     -- the last command was settled
     pub ends_settled : SettleDoes g j r s h work → (ended : Result BatchEnd FrontFault)
         → HandsIn g j (Applied work) input before now r h away u ended
         → Batches g j input before now s h away u ended
-    ends_settled does ended it = by ended it
-      where
-        rest : (lines : List (List ℕ)) (text : List ℕ) (refused : Bool)
-            → AreStanding g j (Applied work) r h away u lines text refused
-            → AreAnswered g j s h away u lines text refused
-        rest lines text refused is = record {
-          world = is.world;
-          answers = is.answers;
-          at = does away is.before is.world is.stands.0 is.stands.1;
-        }
+    ends_settled does (Ok (end.Ended refused)) it = ends_by (settled_answered does) it
+    ends_settled does (Ok (end.Stopped fault)) (is, stops) = absurd (let no : ⊥ = cc in no)
+    ends_settled does (Err fault) (inl it) = inl (breaks_by (settled_answered does) it)
+    ends_settled does (Err fault) (inr (f, is, stops)) = absurd (let no : ⊥ = cc in no)
 
-        by : (ended : Result BatchEnd FrontFault)
-            → HandsIn g j (Applied work) input before now r h away u ended
-            → Batches g j input before now s h away u ended
-        by (Ok (end.Ended refused)) it = record {
-          lines = it.lines;
-          text = it.text;
-          read = it.read;
-          told = it.told;
-          answered = rest it.lines it.text refused it.answered;
-        }
-        by (Ok (end.Stopped fault)) (is, stops) = absurd (let no : ⊥ = cc in no)
-        by (Err fault) (inl it) = inl (record {
-          lines = it.lines;
-          text = it.text;
-          refused = it.refused;
-          read = it.read;
-          told = it.told;
-          answered = rest it.lines it.text it.refused it.answered;
-        })
-        by (Err fault) (inr (f, is, stops)) = absurd (let no : ⊥ = cc in no)
+    left_unsettled : SettleLeaves g j r s h work → (lines : List (List ℕ)) (text : List ℕ)
+        (refused : Bool) → AreStanding g j (Applied work) r h away u lines text refused
+        → AreUnsettled g j s h away u lines text refused
+    left_unsettled leaves lines text refused is = record {
+      registry = r;
+      shelf = h;
+      carried = carried g j (Applied work) r h away u lines text refused is;
+      left = leaves away is.before is.world is.stands.0 is.stands.1;
+    }
 
     -- it couldn't be
     pub ends_unsettled : SettleLeaves g j r s h work
         → (ended : Result BatchEnd FrontFault)
         → HandsIn g j (Applied work) input before now r h away u ended
         → Batches g j input before now s h away u (Err (unsettled_fault ended))
-    ends_unsettled leaves ended it = by ended it
-      where
-        left : (lines : List (List ℕ)) (text : List ℕ) (refused : Bool)
-            → AreStanding g j (Applied work) r h away u lines text refused
-            → AreUnsettled g j s h away u lines text refused
-        left lines text refused is = record {
-          registry = r;
-          shelf = h;
-          carried = carried g j (Applied work) r h away u lines text refused is;
-          left = leaves away is.before is.world is.stands.0 is.stands.1;
-        }
-
-        by : (ended : Result BatchEnd FrontFault)
-            → HandsIn g j (Applied work) input before now r h away u ended
-            → Batches g j input before now s h away u (Err (unsettled_fault ended))
-        by (Ok (end.Ended refused)) it = inr (inr (record {
-          lines = it.lines;
-          text = it.text;
-          refused = refused;
-          read = all_first input it.lines it.read;
-          told = it.told;
-          answered = left it.lines it.text refused it.answered;
-        }))
-        by (Ok (end.Stopped fault)) (is, stops) = absurd (let no : ⊥ = cc in no)
-        by (Err fault) (inl it) = inr (inr (record {
-          lines = it.lines;
-          text = it.text;
-          refused = it.refused;
-          read = it.read;
-          told = it.told;
-          answered = left it.lines it.text it.refused it.answered;
-        }))
-        by (Err fault) (inr (f, is, stops)) = absurd (let no : ⊥ = cc in no)
+    ends_unsettled leaves (Ok (end.Ended refused)) it = inr (inr (record {
+      lines = it.lines;
+      text = it.text;
+      refused = refused;
+      read = all_first input it.lines it.read;
+      told = it.told;
+      answered = left_unsettled leaves it.lines it.text refused it.answered;
+    }))
+    ends_unsettled leaves (Ok (end.Stopped fault)) (is, stops) = absurd (let no : ⊥ = cc in no)
+    ends_unsettled leaves (Err fault) (inl it) = inr (inr (breaks_by (left_unsettled leaves) it))
+    ends_unsettled leaves (Err fault) (inr (f, is, stops)) = absurd (let no : ⊥ = cc in no)

@@ -52,18 +52,11 @@ returns-in-Err-clause-does g c = λ honest kept away u at.
     (kept_before g.S.Store g.H.Shelf c.loop.bench.media.registry
     c.ask_next-outcome.new.bench.media.registry c.ask_next-outcome.ensures.keep.clean kept) away u
     at in
-    let comes = comes_so g.S.Store g.H.Shelf c.loop.bench.progress
-    c.ask_next-outcome.new.bench.progress c.loop.bench.media.registry
-    c.ask_next-outcome.new.bench.media.registry c.loop.bench.media.shelf
-    c.ask_next-outcome.new.bench.media.shelf away (asked_of c.in-Ok-request_at.request)
-    (asked_at c.take_line.new.line c.in-Ok.taken.found)
-    c.ask_next-outcome.result c.in-Ok-request_at.ensures
+    let comes = comes_so g.S.Store g.H.Shelf _ _ _ _ _ _ away _ _ _ c.in-Ok-request_at.ensures
     (c.ask_next-outcome.ensures.comes (going.stays honest) kept away) in
-    told_in_part g.S.Store g.H.Shelf _ _ _ _ _ _ _ _ _ _ _ _ away u _
-    c.take_line.new.line c.in-Ok.taken.found c.ask_next-outcome.result _ so c.in-Ok.ensures.line
-    some comes (far_failed c.loop.bench.progress c.ask_next-outcome.new.bench.progress
-    _ c.ask_next-outcome.result c.ask_next-outcome.ensures.far)
-    c.in-Err.ensures.fault c.in-Err.ensures.front
+    told_in_part g.S.Store g.H.Shelf _ _ _ _ _ _ _ _ _ _ _ _ away u _ c.take_line.new.line
+    c.in-Ok.taken.found c.ask_next-outcome.result _ so c.in-Ok.ensures.line some comes (far_failed
+    _ _ _ _ c.ask_next-outcome.ensures.far) c.in-Err.ensures.fault c.in-Err.ensures.front
 
 pub returns-in-Failed-clause-does : goal.returns-in-Failed-clause-does
 returns-in-Failed-clause-does g c = λ honest kept away u at.
@@ -73,33 +66,19 @@ returns-in-Failed-clause-does g c = λ honest kept away u at.
     (kept_before g.S.Store g.H.Shelf c.loop.bench.media.registry
     c.ask_next-outcome.new.bench.media.registry c.ask_next-outcome.ensures.keep.clean kept) away u
     at in
-    let comes = comes_so g.S.Store g.H.Shelf c.loop.bench.progress
-    c.ask_next-outcome.new.bench.progress c.loop.bench.media.registry
-    c.ask_next-outcome.new.bench.media.registry c.loop.bench.media.shelf
-    c.ask_next-outcome.new.bench.media.shelf away (asked_of c.in-Ok-request_at.request)
-    (asked_at c.take_line.new.line c.in-Ok.taken.found)
-    c.ask_next-outcome.result c.in-Ok-request_at.ensures
+    let comes = comes_so g.S.Store g.H.Shelf _ _ _ _ _ _ away _ _ _ c.in-Ok-request_at.ensures
     (c.ask_next-outcome.ensures.comes (going.stays honest) kept away) in
-    let failed = comes_to g.S.Store g.H.Shelf c.loop.bench.progress
-    c.ask_next-outcome.new.bench.progress c.loop.bench.media.registry
-    c.ask_next-outcome.new.bench.media.registry c.loop.bench.media.shelf
-    c.ask_next-outcome.new.bench.media.shelf away
-    (asked_at c.take_line.new.line c.in-Ok.taken.found)
-    c.ask_next-outcome.result _ c.in-Failed.is comes in
-    let told = told_wholly g.S.Store g.H.Shelf c.loop.bench.progress
-    c.ask_next-outcome.new.bench.progress _ _ _ _ _ _ _ _ _ away u _
-    c.take_line.new.line c.in-Ok.taken.found c.in-Failed.field-0 c.in-Failed.fault so
-    c.in-Ok.ensures.line some failed
-    _ c.ask_next-outcome.result c.in-Failed.is c.in_default-tell.ensures.ok in (
-      far_failed c.loop.bench.progress c.ask_next-outcome.new.bench.progress
-          _ c.ask_next-outcome.result c.ask_next-outcome.ensures.far
+    let failed = comes_to g.S.Store g.H.Shelf _ _ _ _ _ _ away _ _ _ c.in-Failed.is comes in
+    let told = told_wholly g.S.Store g.H.Shelf _ c.ask_next-outcome.new.bench.progress _ _ _ _ _ _
+    _ _ _ away u _ c.take_line.new.line c.in-Ok.taken.found c.in-Failed.field-0 c.in-Failed.fault
+    so c.in-Ok.ensures.line some failed _ c.ask_next-outcome.result c.in-Failed.is
+    c.in_default-tell.ensures.ok in (
+      far_failed _ _ _ _ c.ask_next-outcome.ensures.far
           c.in-Failed.field-0 c.in-Failed.fault c.in-Failed.is,
-      stopped g.S.Store g.H.Shelf c.loop.bench.progress
-          c.ask_next-outcome.new.bench.progress _ _ _ _ _ _ _ _ _ away u _
-          c.take_line.new.line c.in-Ok.taken.found c.in-Failed.field-0 c.in-Failed.fault so
-          c.in-Ok.ensures.line some failed
-          (Appends (g.W.Write.contents c.args.writer.now) (g.W.Write.contents c.tell.new.writer))
-          told,
+      stopped g.S.Store g.H.Shelf _ c.ask_next-outcome.new.bench.progress _ _ _ _ _ _ _ _ _ away
+          u _ c.take_line.new.line c.in-Ok.taken.found c.in-Failed.field-0 c.in-Failed.fault so
+          c.in-Ok.ensures.line some failed (Appends (g.W.Write.contents c.args.writer.now)
+          (g.W.Write.contents c.tell.new.writer)) told,
     )
 
 pub loop-preserved : goal.loop-preserved
@@ -118,25 +97,16 @@ loop-preserved g c =
             let so = going.does honest
             (kept_before g.S.Store g.H.Shelf c.loop.bench.media.registry
             c.ask_next-outcome.new.bench.media.registry asked.keep.clean kept) away u at in
-            let comes = comes_so g.S.Store g.H.Shelf c.loop.bench.progress
-            c.ask_next-outcome.new.bench.progress c.loop.bench.media.registry
-            c.ask_next-outcome.new.bench.media.registry c.loop.bench.media.shelf
-            c.ask_next-outcome.new.bench.media.shelf away (asked_of c.in-Ok-request_at.request)
-            (asked_at c.take_line.new.line c.in-Ok.taken.found)
-            c.ask_next-outcome.result c.in-Ok-request_at.ensures
-            (asked.comes (going.stays honest) kept away) in
-            one_more g.S.Store g.H.Shelf _ _ _ _ _ _ _ _ _ _ _ away u _
-            c.take_line.new.line c.in-Ok.taken.found c.ask_next-outcome.result so
-            c.in-Ok.ensures.line some comes
+            let comes = comes_so g.S.Store g.H.Shelf _ _ _ _ _ _ away _ _ _
+            c.in-Ok-request_at.ensures (asked.comes (going.stays honest) kept away) in
+            one_more g.S.Store g.H.Shelf _ _ _ _ _ _ _ _ _ _ _ away u _ c.take_line.new.line
+            c.in-Ok.taken.found c.ask_next-outcome.result so c.in-Ok.ensures.line some comes
             _ _ c.is_refused_after-refused.ensures on c.in_default-tell.ensures.ok;
       };
-      heard = one_heard _ _ _ _ _ _ _ _ _ _ _ _ _ c.loop.invariant.heard c.in-Ok.ensures.line some
+      heard = one_heard _ _ _ _ _ _ c.loop.invariant.heard _ _ _ _ _ _ _ c.in-Ok.ensures.line some
           c.in-Ok.ensures.fits c.in_default-tell.ensures.ok c.bytes_of.ensures c.answered.ensures;
-      takes = takes_after c.loop.bench.progress c.ask_next-outcome.new.bench.progress
-          _ c.ask_next-outcome.result c.loop.invariant.takes asked.far;
-      goes_on = λ other. far_on c.loop.bench.progress c.ask_next-outcome.new.bench.progress
-          _ c.ask_next-outcome.result asked.far on
-          (c.loop.invariant.goes_on other);
+      takes = takes_after _ _ _ _ c.loop.invariant.takes asked.far;
+      goes_on = λ other. far_on _ _ _ _ asked.far on (c.loop.invariant.goes_on other);
       redone = asked.closes.redone ∙ c.loop.invariant.redone;
       closed = λ failed. asked.closes.closed (ap (λ b. b.progress) (c.loop.invariant.closed failed)
           ∙ failed) ∙ c.loop.invariant.closed failed;
@@ -146,46 +116,41 @@ loop-preserved g c =
 
 pub returns-in-Err-clause-far : goal.returns-in-Err-clause-far
 returns-in-Err-clause-far g c = record {
-  takes = takes_after c.loop.bench.progress c.ask_next-outcome.new.bench.progress
-      _ c.ask_next-outcome.result c.loop.invariant.takes
-      c.ask_next-outcome.ensures.far;
+  takes = takes_after _ _ _ _ c.loop.invariant.takes c.ask_next-outcome.ensures.far;
   ended = tt;
 }
 
 pub returns-in-Failed-clause-far : goal.returns-in-Failed-clause-far
 returns-in-Failed-clause-far g c = record {
-  takes = takes_after c.loop.bench.progress c.ask_next-outcome.new.bench.progress
-      _ c.ask_next-outcome.result c.loop.invariant.takes
-      c.ask_next-outcome.ensures.far;
-  ended = far_failed c.loop.bench.progress c.ask_next-outcome.new.bench.progress
-      _ c.ask_next-outcome.result c.ask_next-outcome.ensures.far
+  takes = takes_after _ _ _ _ c.loop.invariant.takes c.ask_next-outcome.ensures.far;
+  ended = far_failed _ _ _ _ c.ask_next-outcome.ensures.far
       c.in-Failed.field-0 c.in-Failed.fault c.in-Failed.is;
 }
 
 pub returns-in_default-clause-heard : goal.returns-in_default-clause-heard
-returns-in_default-clause-heard g c = heard_whole _ _ _ _ _ _ _ c.loop.invariant.heard
+returns-in_default-clause-heard g c = heard_whole _ _ _ _ _ _ c.loop.invariant.heard _
 
 pub returns-then-eq-clause-heard : goal.returns-then-eq-clause-heard
 returns-then-eq-clause-heard g c =
     let is_end : c.in-Ok.taken.found ≡ End = search rules in
-    heard_to_end _ _ _ _ _ _ _ c.take_line.new.line _ c.loop.invariant.heard
+    heard_to_end _ _ _ _ _ _ c.loop.invariant.heard _ c.take_line.new.line _
     (rw is_end at c.in-Ok.ensures.line)
 
 pub returns-in_default-request_at-clause-heard : goal.returns-in_default-request_at-clause-heard
 returns-in_default-request_at-clause-heard g c =
-    heard_whole _ _ _ _ _ _ _ c.loop.invariant.heard
+    heard_whole _ _ _ _ _ _ c.loop.invariant.heard _
 
 pub returns-clause-heard : goal.returns-clause-heard
-returns-clause-heard g c = heard_whole _ _ _ _ _ _ _ c.loop.invariant.heard
+returns-clause-heard g c = heard_whole _ _ _ _ _ _ c.loop.invariant.heard _
 
 pub returns-in-Err-clause-heard : goal.returns-in-Err-clause-heard
 returns-in-Err-clause-heard g c =
-    heard_in_part _ _ _ _ _ _ _ _ _ c.loop.invariant.heard c.in-Err.ensures.fault
-    c.in-Err.ensures.front
+    heard_in_part _ _ _ _ _ _ c.loop.invariant.heard _ _ _
+    (λ is. absurd (c.in-Err.ensures.fault is)) c.in-Err.ensures.front
 
 pub returns-in-Failed-clause-heard : goal.returns-in-Failed-clause-heard
 returns-in-Failed-clause-heard g c =
     let some : c.in-Ok.taken.found ≢ End = search rules in
-    heard_to_stop _ _ _ _ _ _ _
-    (one_heard _ _ _ _ _ _ _ _ _ _ _ _ _ c.loop.invariant.heard c.in-Ok.ensures.line some
-    c.in-Ok.ensures.fits c.in_default-tell.ensures.ok c.bytes_of.ensures c.answered.ensures)
+    heard_to_stop _ _ _ _ _ _ (one_heard _ _ _ _ _ _ c.loop.invariant.heard _ _ _ _ _ _ _
+    c.in-Ok.ensures.line some c.in-Ok.ensures.fits c.in_default-tell.ensures.ok
+    c.bytes_of.ensures c.answered.ensures) _

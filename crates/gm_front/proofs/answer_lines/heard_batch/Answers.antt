@@ -29,7 +29,7 @@ returns-in_default-clause-answers g c = record {
 }
 
 pub returns-in_default-clause-heard : goal.returns-in_default-clause-heard
-returns-in_default-clause-heard g c = heard_whole _ _ _ _ _ _ _ (heard_none _ _ _)
+returns-in_default-clause-heard g c = heard_whole _ _ _ _ _ _ (heard_none _ _ _) _
 
 pub returns-clause-heard : goal.returns-clause-heard
 returns-clause-heard g c =
