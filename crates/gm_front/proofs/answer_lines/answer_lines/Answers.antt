@@ -137,8 +137,7 @@ returns-then-eq-clause-heard g c =
     (rw is_end at c.in-Ok.ensures.line)
 
 pub returns-in_default-request_at-clause-heard : goal.returns-in_default-request_at-clause-heard
-returns-in_default-request_at-clause-heard g c =
-    heard_whole _ _ _ _ _ _ c.loop.invariant.heard _
+returns-in_default-request_at-clause-heard g c = heard_whole _ _ _ _ _ _ c.loop.invariant.heard _
 
 pub returns-clause-heard : goal.returns-clause-heard
 returns-clause-heard g c = heard_whole _ _ _ _ _ _ c.loop.invariant.heard _

@@ -3,7 +3,8 @@ use Rattle.gm_http.proofs.head.read_head.Given as goal
 
 abbrev pub invariant-loop-bytes : goal.invariant-loop-bytes
 invariant-loop-bytes g l = record {
-  takes : Takes (g.R.Read.remaining l.fn.peer.reader) (g.R.Read.remaining l.peer.reader) [] l.bytes.items;
+  takes : Takes (g.R.Read.remaining l.fn.peer.reader) (g.R.Read.remaining l.peer.reader) []
+      l.bytes.items;
   most : vec_len l.bytes ≤ 8192;
   none : HasNoRequest l.bytes.items;
 }

@@ -3,8 +3,8 @@ use Rattle.gm_http.proofs.input.fill.Given as goal
 
 abbrev pub invariant-loop-bytes : goal.invariant-loop-bytes
 invariant-loop-bytes g l = record {
-  takes : Takes (g.R.Read.remaining l.fn.peer.reader) (g.R.Read.remaining l.peer.reader) l.fn.bytes.items
-      l.bytes.items;
+  takes : Takes (g.R.Read.remaining l.fn.peer.reader) (g.R.Read.remaining l.peer.reader)
+      l.fn.bytes.items l.bytes.items;
   most : vec_len l.bytes ≤ max (vec_len l.fn.bytes) l.total;
 }
 
