@@ -37,30 +37,39 @@ expect_end() {
     rm -f "$here/crates/gmbench/out/gmbench.proved"
     PATH=$work/path:$PATH "$here/check" >"$work/printed" 2>"$work/complaints" </dev/null
     status=$?
-    tail -n +"$(($(cat "$told/rt" "$told/process" | wc -l) + 1))" "$work/printed" >"$work/output"
+    # How long it took is another number each time.
+    tail -n +"$(($(cat "$told/rt" "$told/process" | wc -l) + 1))" "$work/printed" |
+        sed 's/^# it took [0-9]* minutes, and [0-9]* seconds of a processor$/# it took a time/' >"$work/output"
     expect "$1" "$2" "$3" ''
 }
 
 say 'rt: ok\n40 passed, 0 failed\n' 0 '# words/lines\nok one\n2 passed, 0 failed\n' 0
-expect_end 'all passed' 0 '42 passed, 0 failed'
+expect_end 'all passed' 0 '# it took a time
+42 passed, 0 failed'
 [ -f "$here/crates/gmbench/out/gmbench.proved" ] && pass 'a note is left' || fail 'a note is left' 'there is none'
 say '40 passed, 0 failed\n' 0 \
     '# words/lines\nok one\nskipped a line: there is no zsh here\n# faults/stops\nskipped two: there is no sqlite3\n1 passed, 0 failed\n' 0
 expect_end 'tests that were skipped' 0 "# what was skipped
 skipped words/lines: a line: there is no zsh here
 skipped faults/stops: two: there is no sqlite3
+# it took a time
 41 passed, 0 failed, 2 skipped"
 say '40 passed, 1 failed\n' 1 '# words/lines\nok one\n1 passed, 0 failed\n' 0
-expect_end 'a crate that failed' 1 '41 passed, 1 failed'
+expect_end 'a crate that failed' 1 '# it took a time
+41 passed, 1 failed'
 expect_none 'no note is left' "$here/crates/gmbench/out/gmbench.proved"
 say '40 passed, 0 failed\n' 0 '# words/lines\nfailed one: why\n0 passed, 1 failed\n' 1
-expect_end 'a test that failed' 1 '40 passed, 1 failed'
+expect_end 'a test that failed' 1 '# it took a time
+40 passed, 1 failed'
 say '40 passed, 0 failed\n' 2 '# words/lines\nok one\n1 passed, 0 failed\n' 0
-expect_end 'proofs that end with a status' 1 '41 passed, 1 failed'
+expect_end 'proofs that end with a status' 1 '# it took a time
+41 passed, 1 failed'
 say 'rt: it was killed\n' 137 '# words/lines\nok one\n1 passed, 0 failed\n' 0
-expect_end 'proofs that did not come to their end' 1 '1 passed, 1 failed'
+expect_end 'proofs that did not come to their end' 1 '# it took a time
+1 passed, 1 failed'
 say '40 passed, 0 failed\n' 0 '# words/lines\n' 1
-expect_end 'tests that did not come to their end' 1 '40 passed, 1 failed'
+expect_end 'tests that did not come to their end' 1 '# it took a time
+40 passed, 1 failed'
 
 # ---- each file of tests says in its first line what it shows
 
@@ -83,18 +92,40 @@ packages=$(sed -n "s/^packages='\(.*\)'/\1/p" "$top/tools/test-needs")
 [ -n "$packages" ] && grep -qF "apt-get install $packages" "$top/README.md" && pass 'README gives the line for Debian' ||
     fail 'README gives the line for Debian' "apt-get install $packages"
 
-# ---- the pages agree on how many wrong bodies are tried, and by which kits
+# ---- what costs most of the gate is bounded, and the pages say by how much
 
-edits=$(find "$top/crates" -path '*/must-fail/*.edit' | wc -l)
-[ "$edits" -le 120 ] && pass 'there are 120 edits at most' || fail 'there are 120 edits at most' "there are $edits"
+# That a count isn't above its bound.
+expect_at_most() {
+    [ "$2" -le "$3" ] && pass "$1: $3 at most" || fail "$1: $3 at most" "there are $2"
+}
+
+find "$top/crates" -path '*/must-fail/*.edit' | sed 's|.*/crates/||; s|/must-fail||; s|\.edit$||' | LC_ALL=C sort >"$work/edits"
+edits=$(wc -l <"$work/edits")
+crates=$(cut -d / -f 1 "$work/edits" | sort -u | wc -l)
+expect_at_most 'wrong bodies' "$edits" 90
+expect_at_most 'crates with wrong bodies' "$crates" 15
+tests=$(find "$top/crates" -path '*_tests/src/*.rt' -exec cat {} + | wc -l)
+expect_at_most 'lines of proved tests' "$tests" 9500
 for page in docs/PROOF.md docs/GATE.md CONTRIBUTING.md; do
     tr '\n' ' ' <"$top/$page" >"$work/page"
-    grep -q '120 at most' "$work/page" && pass "$page has the bound of edits" || fail "$page has the bound of edits" 'it has not'
     kits=$(grep -o 'rattle-kit-[0-9a-z]*' "$work/page" | LC_ALL=C sort -u | tr '\n' ' ')
     [ "$kits" = 'rattle-kit-13b rattle-kit-13f ' ] && pass "$page has the kits" ||
         fail "$page has the kits" "it has '$kits'"
 done
 for page in docs/PROOF.md docs/GATE.md; do
-    grep -q "\<$edits edits" "$top/$page" && pass "$page has their number" || fail "$page has their number" "there are $edits"
+    tr '\n' ' ' <"$top/$page" >"$work/page"
+    grep -q "\<$edits edits in $crates crates" "$work/page" && pass "$page counts the wrong bodies" ||
+        fail "$page counts the wrong bodies" "there are $edits edits in $crates crates"
 done
+
+# ---- each wrong body that docs/PROOF.md names is in the tree
+
+sed -n '/^## Wrong bodies/,/^## What is trusted/ s/^|.*| `\(.*\)` |$/\1/p' "$top/docs/PROOF.md" >"$work/named"
+[ -s "$work/named" ] && pass 'docs/PROOF.md names wrong bodies' || fail 'docs/PROOF.md names wrong bodies' 'it names none'
+while read -r name; do
+    case $name in
+        *::*) grep -qrE "fn ${name##*::}\(" "$top/crates/${name%%::*}/src" ;;
+        *) grep -qxF "$name" "$work/edits" ;;
+    esac && pass "there is $name" || fail "there is $name" 'the tree has none'
+done <"$work/named"
 finish

@@ -26,7 +26,7 @@ WORDS = {
     "docs/DEFINITIONS.md": 4000,
     "docs/GATE.md": 500,
     "docs/PERFORMANCE.md": 1000,
-    "docs/PROOF.md": 2800,
+    "docs/PROOF.md": 3400,
     "docs/REFERENCE.md": 9500,
     "docs/USE.md": 5000,
 }
