@@ -1,196 +1,126 @@
 //! The commands that change mirrors, each by itself: `gmbench label gm0 a.img` is `gmbench do KEY
 //! label --mid N --did N gm0 a.img` under a key and with numbers of gmbench's own.
 
-use clap::{Arg, ArgAction, ArgMatches, Command};
+use crate::argument::{Argument, FLAG, Given, NAME, Need, OPTION, with_arguments};
+use crate::settings::Settings;
+use clap::{ArgMatches, Command};
 use std::alloc::{AllocError, Global};
 
-// How a word is given.
-#[derive(Clone, Copy)]
-enum Place {
-    // after its option, which may be left out
-    Option,
-    // after its option, which must be given
-    Wanted,
-    // by its place
-    Name,
-    // one or more, by their places
-    Names,
-    // by its place, and one or more, unless all are meant
-    NameUnlessAll,
-    NamesUnlessAll,
-    // an option without a value
-    All,
-}
-
-// A word that a command takes.
-#[derive(Clone, Copy)]
-struct Word {
-    // An option with its dashes, or nothing.
-    option: &'static str,
-    id: &'static str,
-    value: &'static str,
-    help: &'static str,
-    place: Place,
-}
-
-const MID: Word = Word {
-    option: "--mid",
-    id: "mid",
+const MID: Argument = Argument {
+    word: "--mid",
     value: "N",
     help: "The mirror's number; if it is left out, the least that is free",
-    place: Place::Option,
+    ..OPTION
 };
 
-const DID: Word = Word {
-    option: "--did",
-    id: "did",
+const DID: Argument = Argument {
+    word: "--did",
     value: "N",
     help: "The component's number; if it is left out, the least that is free",
-    place: Place::Option,
+    ..OPTION
 };
 
-const BALANCE: Word = Word {
-    option: "--balance",
-    id: "balance",
+const BALANCE: Argument = Argument {
+    word: "--balance",
     value: "B",
     help: "How reads are shared out: load, prefer, round-robin or split",
-    place: Place::Option,
+    ..OPTION
 };
 
-const SLICE: Word = Word {
-    option: "--slice",
-    id: "slice",
+const SLICE: Argument = Argument {
+    word: "--slice",
     value: "N",
     help: "The bytes by which split shares out",
-    place: Place::Option,
+    ..OPTION
 };
 
-const AUTOSYNC: Word = Word {
-    option: "--autosync",
-    id: "autosync",
+const AUTOSYNC: Argument = Argument {
+    word: "--autosync",
     value: "S",
     help: "on or off: whether components are filled that fell behind",
-    place: Place::Option,
+    ..OPTION
 };
 
-const FAILSYNC: Word = Word {
-    option: "--failsync",
-    id: "failsync",
+const FAILSYNC: Argument = Argument {
+    word: "--failsync",
     value: "S",
     help: "on or off: off sets the flag NOFAILSYNC",
-    place: Place::Option,
+    ..OPTION
 };
 
-const HARDCODE: Word = Word {
-    option: "--hardcode",
-    id: "hardcode",
+const HARDCODE: Argument = Argument {
+    word: "--hardcode",
     value: "S",
     help: "on or off: whether an image's name is in its metadata",
-    place: Place::Option,
+    ..OPTION
 };
 
-const PRIORITY: Word = Word {
-    option: "--priority",
-    id: "priority",
+const PRIORITY: Argument = Argument {
+    word: "--priority",
     value: "P",
     help: "The component's priority as a source, 0 to 255",
-    place: Place::Option,
+    ..OPTION
 };
 
-const PRIORITY_OF: Word = Word {
-    option: "--prov",
-    id: "prov",
+const PRIORITY_OF: Argument = Argument {
+    word: "--prov",
     value: "PROV",
     help: "The image of the component that gets the priority",
-    place: Place::Option,
+    ..OPTION
 };
 
-const FIRST: Word = Word {
-    option: "--first",
-    id: "first",
+const FIRST: Argument = Argument {
+    word: "--first",
     value: "N",
     help: "The first sector, counted from 0",
-    place: Place::Wanted,
+    need: Need::Always,
+    ..OPTION
 };
 
-const DATA: Word = Word {
-    option: "--data",
-    id: "data",
+const DATA: Argument = Argument {
+    word: "--data",
     value: "HEX",
     help: "1 to 64 sectors, each as 1,024 digits of 0-9 and a-f",
-    place: Place::Wanted,
+    need: Need::Always,
+    ..OPTION
 };
 
-const NAME: Word = Word {
-    option: "",
-    id: "name",
+const MIRROR: Argument = Argument {
+    word: "name",
     value: "NAME",
     help: "The name of a mirror",
-    place: Place::Name,
-};
-
-const PROV: Word = Word {
-    option: "",
-    id: "image",
-    value: "PROV",
-    help: "The name of an image",
-    place: Place::Name,
-};
-
-const PROVS: Word = Word {
-    option: "",
-    id: "image",
-    value: "PROV",
-    help: "The names of one or more images",
-    place: Place::Names,
-};
-
-const ALL: Word = Word {
-    option: "--all",
-    id: "all",
-    value: "",
-    help: "Adopts each mirror that the images of the folder show whole",
-    place: Place::All,
-};
-
-const NAME_UNLESS_ALL: Word = Word {
-    place: Place::NameUnlessAll,
     ..NAME
 };
 
-const PROVS_UNLESS_ALL: Word = Word {
-    place: Place::NamesUnlessAll,
-    ..PROVS
+const IMAGE: Argument = Argument {
+    word: "image",
+    value: "PROV",
+    help: "The name of an image",
+    ..NAME
 };
 
-impl Word {
-    fn arg<'a>(self, alloc: Global) -> Result<Arg<'a>, AllocError> {
-        let arg = Arg::new(alloc, self.id).help(self.help);
-        if matches!(self.place, Place::All) {
-            return arg
-                .long(self.id)
-                .action(ArgAction::SetTrue)
-                .conflicts_with_all(&["name", "json"]);
-        }
-        let arg = arg.value_name(self.value);
-        Ok(match self.place {
-            Place::Option | Place::All => arg.long(self.id).action(ArgAction::Set),
-            Place::Wanted => arg.long(self.id).required(true).action(ArgAction::Set),
-            Place::Name => arg.required(true).action(ArgAction::Set),
-            Place::Names => arg.required(true).action(ArgAction::Append),
-            Place::NameUnlessAll => arg.action(ArgAction::Set).required_unless_present("all")?,
-            Place::NamesUnlessAll => {
-                arg.action(ArgAction::Append)
-                    .required_unless_present("all")?
-            }
-        })
-    }
+const IMAGES: Argument = Argument {
+    help: "The names of one or more images",
+    given: Given::Texts,
+    ..IMAGE
+};
 
-    // Whether it is an option with a value.
-    fn is_option(self) -> bool {
-        matches!(self.place, Place::Option | Place::Wanted)
-    }
-}
+const ALL: Argument = Argument {
+    word: "--all",
+    help: "Adopts each mirror that the images of the folder show whole",
+    given: Given::All,
+    ..FLAG
+};
+
+const MIRROR_UNLESS_ALL: Argument = Argument {
+    need: Need::UnlessAll,
+    ..MIRROR
+};
+
+const IMAGES_UNLESS_ALL: Argument = Argument {
+    need: Need::UnlessAll,
+    ..IMAGES
+};
 
 /// A command that changes mirrors, and what the help says of it.
 #[derive(Clone, Copy)]
@@ -198,7 +128,7 @@ pub(crate) struct ByItself {
     pub(crate) name: &'static str,
     about: &'static str,
     more: &'static str,
-    words: &'static [Word],
+    words: &'static [Argument],
 }
 
 const COMMANDS: [ByItself; 14] = [
@@ -210,7 +140,7 @@ const COMMANDS: [ByItself; 14] = [
 Example:
   gmbench label gm0 a.img",
         words: &[
-            MID, DID, BALANCE, SLICE, AUTOSYNC, FAILSYNC, HARDCODE, NAME, PROV,
+            MID, DID, BALANCE, SLICE, AUTOSYNC, FAILSYNC, HARDCODE, MIRROR, IMAGE,
         ],
     },
     ByItself {
@@ -221,7 +151,7 @@ components.
 
 Example:
   gmbench insert gm0 b.img",
-        words: &[DID, PRIORITY, HARDCODE, NAME, PROV],
+        words: &[DID, PRIORITY, HARDCODE, MIRROR, IMAGE],
     },
     ByItself {
         name: "remove",
@@ -231,7 +161,7 @@ stay.
 
 Example:
   gmbench remove gm0 b.img",
-        words: &[NAME, PROV],
+        words: &[MIRROR, IMAGE],
     },
     ByItself {
         name: "deactivate",
@@ -240,7 +170,7 @@ Example:
 
 Example:
   gmbench deactivate gm0 b.img",
-        words: &[NAME, PROV],
+        words: &[MIRROR, IMAGE],
     },
     ByItself {
         name: "activate",
@@ -249,7 +179,7 @@ Example:
 
 Example:
   gmbench activate gm0 b.img",
-        words: &[NAME, PROV],
+        words: &[MIRROR, IMAGE],
     },
     ByItself {
         name: "forget",
@@ -258,7 +188,7 @@ Example:
 
 Example:
   gmbench forget gm0",
-        words: &[NAME],
+        words: &[MIRROR],
     },
     ByItself {
         name: "rebuild",
@@ -267,7 +197,7 @@ Example:
 
 Example:
   gmbench rebuild gm0 b.img",
-        words: &[NAME, PROV],
+        words: &[MIRROR, IMAGE],
     },
     ByItself {
         name: "configure",
@@ -284,7 +214,7 @@ Example:
             HARDCODE,
             PRIORITY_OF,
             PRIORITY,
-            NAME,
+            MIRROR,
         ],
     },
     ByItself {
@@ -294,7 +224,7 @@ Example:
 
 Example:
   gmbench clear old.img",
-        words: &[PROV],
+        words: &[IMAGE],
     },
     ByItself {
         name: "destroy",
@@ -303,7 +233,7 @@ Example:
 
 Example:
   gmbench destroy gm0",
-        words: &[NAME],
+        words: &[MIRROR],
     },
     ByItself {
         name: "lost",
@@ -312,7 +242,7 @@ Example:
 
 Example:
   gmbench lost gm0 b.img",
-        words: &[NAME, PROVS],
+        words: &[MIRROR, IMAGES],
     },
     ByItself {
         name: "advance",
@@ -321,7 +251,7 @@ Example:
 
 Example:
   gmbench advance gm0 b.img",
-        words: &[NAME, PROV],
+        words: &[MIRROR, IMAGE],
     },
     ByItself {
         name: "adopt",
@@ -333,7 +263,7 @@ others, and the status is 1 then.
 
 Example:
   gmbench adopt gm0 a.img b.img",
-        words: &[ALL, NAME_UNLESS_ALL, PROVS_UNLESS_ALL],
+        words: &[ALL, MIRROR_UNLESS_ALL, IMAGES_UNLESS_ALL],
     },
     ByItself {
         name: "patch",
@@ -343,7 +273,7 @@ behind.
 
 Example:
   gmbench patch --first 17 --data HEX gm0",
-        words: &[FIRST, DATA, NAME],
+        words: &[FIRST, DATA, MIRROR],
     },
 ];
 
@@ -367,14 +297,15 @@ pub(crate) fn command_named(name: &str) -> Option<ByItself> {
 
 impl ByItself {
     /// Its table of words for clap, without the program's options.
-    pub(crate) fn command<'a>(self, alloc: Global) -> Result<Command<'a>, AllocError> {
-        let mut command = Command::new(alloc, self.name)
+    pub(crate) fn command<'a>(
+        self,
+        alloc: Global,
+        settings: Settings<'a>,
+    ) -> Result<Command<'a>, AllocError> {
+        let command = Command::new(alloc, self.name)
             .about(self.about)
             .after_help(self.more);
-        for word in self.words {
-            command = command.arg(word.arg(alloc)?)?;
-        }
-        Ok(command)
+        with_arguments(alloc, command, self.words, settings)
     }
 
     // Appends the options that were given, each with its value.
@@ -387,8 +318,8 @@ impl ByItself {
             if !word.is_option() {
                 continue;
             }
-            if let Some(value) = given.get_str(word.id) {
-                words.push(word.option)?;
+            if let Some(value) = given.get_str(word.id()) {
+                words.push(word.word)?;
                 words.push(value)?;
             }
         }
@@ -402,10 +333,10 @@ impl ByItself {
         words: &mut Vec<&'a str>,
     ) -> Result<(), AllocError> {
         for word in self.words {
-            if word.is_option() || matches!(word.place, Place::All) {
+            if !word.is_name() {
                 continue;
             }
-            if let Some(values) = given.get_strs(word.id) {
+            if let Some(values) = given.get_strs(word.id()) {
                 words.extend_from_slice(values)?;
             }
         }
@@ -437,7 +368,7 @@ impl ByItself {
 
     // Whether it takes this option, and wasn't given it.
     fn lacks(self, given: &ArgMatches<'_>, id: &str) -> bool {
-        let takes = self.words.iter().any(|word| word.id == id);
+        let takes = self.words.iter().any(|word| word.id() == id);
         takes && given.get_str(id).is_none()
     }
 }

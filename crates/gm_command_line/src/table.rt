@@ -1,281 +1,348 @@
 //! The table of the program's own words, for `clap`.
 
+use crate::argument::{Argument, FLAG, Given, NAME, Need, OPTION, with_arguments};
 use crate::by_itself::{ByItself, commands};
 use crate::help::{
     CHECKING, COMPARING, FILLING, HELP, LINES, LOSSES, REPLACING, REQUESTS, WORDS, WRITES, WRITING,
 };
 use crate::settings::Settings;
-use clap::builder::ValueParser;
-use clap::{Arg, ArgAction, Command};
+use clap::Command;
 use std::alloc::{AllocError, Global};
 
-// An option that has a value.
-fn with_value<'a>(alloc: Global, id: &'a str, value: &'a str, help: &'a str) -> Arg<'a> {
-    Arg::new(alloc, id)
-        .long(id)
-        .value_name(value)
-        .help(help)
-        .action(ArgAction::Set)
-}
+const JSON: Argument = Argument {
+    word: "--json",
+    help: "Prints JSON",
+    ..FLAG
+};
 
-fn shelf_option<'a>(alloc: Global, settings: Settings<'a>) -> Arg<'a> {
-    with_value(alloc, "shelf", "DIR", "The folder with the images").required(
-        settings.shelf.is_unset(),
-    )
-}
+const EXPLAIN: Argument = Argument {
+    word: "--explain",
+    help: "Says on standard error what a refusal or a fault means",
+    ..FLAG
+};
 
-fn registry_option<'a>(alloc: Global, settings: Settings<'a>) -> Arg<'a> {
-    let help = "The registry, which is made where there is none";
-    with_value(alloc, "registry", "FILE", help).required(settings.registry.is_unset())
-}
+const EXISTING: Argument = Argument {
+    word: "--existing",
+    help: "Makes no registry: one that isn't there is a fault",
+    ..FLAG
+};
 
-// The folder, for a subcommand that lets it be left out.
-fn shelf_if_any<'a>(alloc: Global) -> Arg<'a> {
-    let help = "The folder with the images, to say how they stand to what is pending";
-    with_value(alloc, "shelf", "DIR", help)
-}
+const READ_ONLY: Argument = Argument {
+    word: "--read-only",
+    help: "Carries out nothing that is pending, and writes nothing at all",
+    ..FLAG
+};
+
+const UNCHECKED: Argument = Argument {
+    word: "--unchecked",
+    help: "Doesn't look first whether the images are as they are registered",
+    ..FLAG
+};
+
+const FORCE: Argument = Argument {
+    word: "--force",
+    help: "Carries it out even if data are lost then",
+    ..FLAG
+};
+
+const DATA: Argument = Argument {
+    word: "--data",
+    help: "Compares the data of the components that are ACTIVE too",
+    ..FLAG
+};
+
+const QUIET: Argument = Argument {
+    word: "--quiet",
+    help: "Doesn't say how far it is",
+    ..FLAG
+};
+
+const AUDIT: Argument = Argument {
+    word: "--audit",
+    help: "Carries out no command if an image of its mirror isn't as it is registered",
+    ..FLAG
+};
+
+const STOP: Argument = Argument {
+    word: "--stop",
+    help: "Ends at the first line that is refused",
+    ..FLAG
+};
+
+const LOG: Argument = Argument {
+    word: "--log",
+    help: "Logs a line for each connection, on standard error",
+    ..FLAG
+};
+
+const ANY_ORIGIN: Argument = Argument {
+    word: "--any-origin",
+    help: "Answers web pages too, which are turned away without it",
+    ..FLAG
+};
+
+const REGISTRY: Argument = Argument {
+    word: "--registry",
+    value: "FILE",
+    help: "The registry, which is made where there is none",
+    need: Need::UnlessRegistryIsSet,
+    ..OPTION
+};
 
 // The registry, for a subcommand that makes none.
-fn registry_there<'a>(alloc: Global, settings: Settings<'a>) -> Arg<'a> {
-    let registry = with_value(alloc, "registry", "FILE", "The registry");
-    registry.required(settings.registry.is_unset())
-}
+const REGISTRY_THERE: Argument = Argument {
+    help: "The registry",
+    ..REGISTRY
+};
 
-fn provider_name<'a>(alloc: Global) -> Arg<'a> {
-    Arg::new(alloc, "provider")
-        .value_name("PROV")
-        .help("The name of an image")
-        .required(true)
-        .action(ArgAction::Set)
-}
+const SHELF: Argument = Argument {
+    word: "--shelf",
+    value: "DIR",
+    help: "The folder with the images",
+    need: Need::UnlessFolderIsSet,
+    ..OPTION
+};
 
-fn without_option<'a>(alloc: Global) -> Result<Arg<'a>, AllocError> {
-    let help = "An image that is gone for good, which is given up";
-    with_value(alloc, "without", "PROV", help).requires_arg("key")
-}
+const SHELF_IF_ANY: Argument = Argument {
+    word: "--shelf",
+    value: "DIR",
+    help: "The folder with the images, to say how they stand to what is pending",
+    ..OPTION
+};
 
-fn key_option<'a>(alloc: Global) -> Result<Arg<'a>, AllocError> {
-    let help = "The key under which it is given up, once";
-    with_value(alloc, "key", "KEY", help).requires_arg("without")
-}
+const WAIT: Argument = Argument {
+    word: "--wait",
+    value: "SECONDS",
+    help: "How long a folder or a registry in use is tried again",
+    given: Given::Number(0, 86_400),
+    ..OPTION
+};
 
-fn port_option<'a>(alloc: Global) -> Arg<'a> {
-    let help = "The port on 127.0.0.1; 0 stands for one that is free";
-    with_value(alloc, "port", "P", help)
-        .required(true)
-        .value_parser(ValueParser::unsigned(0, 65_535))
-}
+const WITHOUT: Argument = Argument {
+    word: "--without",
+    value: "PROV",
+    help: "An image that is gone for good, which is given up",
+    need: Need::Beside("key"),
+    ..OPTION
+};
 
-fn count_option<'a>(alloc: Global) -> Arg<'a> {
-    with_value(alloc, "count", "N", "How many connections are served").value_parser(
-        ValueParser::unsigned(1, 4_294_967_295),
-    )
-}
+const KEY_OF_LOSS: Argument = Argument {
+    word: "--key",
+    value: "KEY",
+    help: "The key under which it is given up, once",
+    need: Need::Beside("without"),
+    ..OPTION
+};
 
-// An option without a value.
-fn flag<'a>(alloc: Global, id: &'a str, help: &'a str) -> Arg<'a> {
-    Arg::new(alloc, id)
-        .long(id)
-        .help(help)
-        .action(ArgAction::SetTrue)
-}
+const OWN_KEY: Argument = Argument {
+    word: "--key",
+    value: "KEY",
+    help: "The key under which it is carried out, once, in place of one of gmbench's own",
+    ..OPTION
+};
 
-fn log_option<'a>(alloc: Global) -> Arg<'a> {
-    let help = "Logs a line for each connection, on standard error";
-    flag(alloc, "log", help)
-}
+const FIRST_KEY: Argument = Argument {
+    word: "--key",
+    value: "KEY",
+    help: "The key of its first command, in place of one of gmbench's own",
+    ..OPTION
+};
 
-fn origin_option<'a>(alloc: Global) -> Arg<'a> {
-    let help = "Answers web pages too, which are turned away without it";
-    flag(alloc, "any-origin", help)
-}
+const PORT: Argument = Argument {
+    word: "--port",
+    value: "P",
+    help: "The port on 127.0.0.1; 0 stands for one that is free",
+    need: Need::Always,
+    given: Given::Number(0, 65_535),
+    ..OPTION
+};
 
-fn audit_option<'a>(alloc: Global) -> Arg<'a> {
-    let help = "Carries out no command if an image of its mirror isn't as it is registered";
-    flag(alloc, "audit", help)
-}
+const COUNT: Argument = Argument {
+    word: "--count",
+    value: "N",
+    help: "How many connections are served",
+    given: Given::Number(1, 4_294_967_295),
+    ..OPTION
+};
 
-fn explain_option<'a>(alloc: Global) -> Arg<'a> {
-    let help = "Says on standard error what a refusal or a fault means";
-    flag(alloc, "explain", help)
-}
+const FIRST: Argument = Argument {
+    word: "--first",
+    value: "N",
+    help: "The first sector, counted from 0",
+    need: Need::Always,
+    given: Given::Number(0, 4_294_967_295),
+    ..OPTION
+};
 
-fn stop_option<'a>(alloc: Global) -> Arg<'a> {
-    let help = "Ends at the first line that is refused";
-    flag(alloc, "stop", help)
-}
+const FILE: Argument = Argument {
+    word: "--file",
+    value: "FILE",
+    help: "The file with the data, or - for standard input",
+    need: Need::Always,
+    ..OPTION
+};
 
-fn existing_option<'a>(alloc: Global) -> Arg<'a> {
-    let help = "Makes no registry: one that isn't there is a fault";
-    flag(alloc, "existing", help)
-}
+const IMAGE: Argument = Argument {
+    word: "provider",
+    value: "PROV",
+    help: "The name of an image",
+    ..NAME
+};
 
-fn wait_option<'a>(alloc: Global) -> Arg<'a> {
-    let help = "How long a folder or a registry in use is tried again";
-    with_value(alloc, "wait", "SECONDS", help).value_parser(ValueParser::unsigned(0, 86_400))
-}
+const IMAGE_IF_ANY: Argument = Argument {
+    need: Need::Never,
+    ..IMAGE
+};
 
-fn json_option<'a>(alloc: Global) -> Arg<'a> {
-    flag(alloc, "json", "Prints JSON")
-}
+const MIRROR: Argument = Argument {
+    word: "name",
+    value: "NAME",
+    help: "The name of a mirror",
+    ..NAME
+};
 
-fn read_only_option<'a>(alloc: Global) -> Arg<'a> {
-    let help = "Carries out nothing that is pending, and writes nothing at all";
-    flag(alloc, "read-only", help)
-}
+const MIRROR_IF_ANY: Argument = Argument {
+    need: Need::Never,
+    ..MIRROR
+};
 
-fn unchecked_option<'a>(alloc: Global) -> Arg<'a> {
-    let help = "Doesn't look first whether the images are as they are registered";
-    flag(alloc, "unchecked", help)
-}
+const OLD: Argument = Argument {
+    word: "old",
+    value: "OLD",
+    help: "The image that is taken out",
+    ..NAME
+};
 
-fn force_option<'a>(alloc: Global) -> Arg<'a> {
-    let help = "Carries it out even if data are lost then";
-    flag(alloc, "force", help)
-}
+const NEW: Argument = Argument {
+    word: "new",
+    value: "NEW",
+    help: "The image that takes its place",
+    ..NAME
+};
 
-fn data_option<'a>(alloc: Global) -> Arg<'a> {
-    let help = "Compares the data of the components that are ACTIVE too";
-    flag(alloc, "data", help)
-}
+const KEY: Argument = Argument {
+    word: "key",
+    value: "KEY",
+    help: "The key under which it is carried out, once",
+    ..NAME
+};
 
-fn quiet_option<'a>(alloc: Global) -> Arg<'a> {
-    let help = "Doesn't say how far it is";
-    flag(alloc, "quiet", help)
-}
+const COMMAND: Argument = Argument {
+    word: "words",
+    value: "COMMAND",
+    help: "The command, and its words",
+    given: Given::Rest,
+    ..NAME
+};
 
-// A mirror that may be named.
-fn mirror_name<'a>(alloc: Global) -> Arg<'a> {
-    Arg::new(alloc, "name")
-        .value_name("NAME")
-        .help("The name of a mirror")
-        .action(ArgAction::Set)
-}
-
-// A provider that may be named.
-fn component_name<'a>(alloc: Global) -> Arg<'a> {
-    Arg::new(alloc, "provider")
-        .value_name("PROV")
-        .help("The name of an image")
-        .action(ArgAction::Set)
-}
-
-fn key_word<'a>(alloc: Global) -> Arg<'a> {
-    Arg::new(alloc, "key")
-        .value_name("KEY")
-        .help("The key under which it is carried out, once")
-        .required(true)
-        .action(ArgAction::Set)
-}
-
-// A command and all that follows it.
-fn command_words<'a>(alloc: Global) -> Arg<'a> {
-    Arg::new(alloc, "words")
-        .value_name("COMMAND")
-        .help("The command, and its words")
-        .required(true)
-        .action(ArgAction::Append)
-        .num_args(1..)
-        .trailing_var_arg(true)
-        .allow_hyphen_values(true)
-}
-
-fn own_key_option<'a>(alloc: Global) -> Arg<'a> {
-    let help = "The key under which it is carried out, once, in place of one of gmbench's own";
-    with_value(alloc, "key", "KEY", help)
-}
-
-// A name that must be given.
-fn name_wanted<'a>(alloc: Global, id: &'a str, value: &'a str, help: &'a str) -> Arg<'a> {
-    Arg::new(alloc, id)
-        .value_name(value)
-        .help(help)
-        .required(true)
-        .action(ArgAction::Set)
-}
-
-fn first_option<'a>(alloc: Global) -> Arg<'a> {
-    with_value(alloc, "first", "N", "The first sector, counted from 0")
-        .required(true)
-        .value_parser(ValueParser::unsigned(0, 4_294_967_295))
-}
-
-fn file_option<'a>(alloc: Global) -> Arg<'a> {
-    let help = "The file with the data, or - for standard input";
-    with_value(alloc, "file", "FILE", help).required(true)
-}
-
-fn first_key_option<'a>(alloc: Global) -> Arg<'a> {
-    let help = "The key of its first command, in place of one of gmbench's own";
-    with_value(alloc, "key", "KEY", help)
-}
-
-// What a subcommand takes.
-#[derive(Clone, Copy)]
-enum Takes {
-    Image,
-    Folder,
-    Registry,
-    Bench,
-    BenchAndLoss,
-    BenchAndLines,
-    BenchAndCommand,
-    BenchAndScope,
-    BenchAndMirror,
-    BenchAndData,
-    BenchAndRequests,
-    BenchAndImages,
-    BenchAndFile,
-}
-
-// A subcommand, and what the help says of it.
+/// A subcommand, what the help says of it, and what it takes, in the help's order.
 #[derive(Clone, Copy)]
 pub(crate) struct Subcommand {
     pub(crate) name: &'static str,
     about: &'static str,
-    takes: Takes,
+    // what its help says below its options, if anything
+    more: &'static str,
+    takes: &'static [Argument],
 }
 
 pub(crate) const DUMP: Subcommand = Subcommand {
     name: "dump",
     about: "Prints what the last sector of an image says",
-    takes: Takes::Image,
+    more: "",
+    takes: &[SHELF, JSON, EXPLAIN, IMAGE],
 };
 
 const PENDING: Subcommand = Subcommand {
     name: "pending",
     about: "Prints what a run that stopped left pending, and carries out nothing",
-    takes: Takes::Registry,
+    more: WRITES,
+    takes: &[REGISTRY_THERE, SHELF_IF_ANY, JSON, EXPLAIN, WAIT],
 };
 
 pub(crate) const RECOVER: Subcommand = Subcommand {
     name: "recover",
     about: "Carries out what a run that stopped left pending",
-    takes: Takes::BenchAndLoss,
+    more: LOSSES,
+    takes: &[
+        REGISTRY,
+        SHELF,
+        EXISTING,
+        EXPLAIN,
+        WAIT,
+        JSON,
+        WITHOUT,
+        KEY_OF_LOSS,
+    ],
 };
 
 pub(crate) const SYNC: Subcommand = Subcommand {
     name: "sync",
     about: "Fills the components that are SYNCHRONIZING",
-    takes: Takes::BenchAndScope,
+    more: FILLING,
+    takes: &[
+        REGISTRY_THERE,
+        SHELF,
+        EXPLAIN,
+        WAIT,
+        JSON,
+        UNCHECKED,
+        QUIET,
+        MIRROR_IF_ANY,
+        IMAGE_IF_ANY,
+    ],
 };
 
 pub(crate) const SCRUB: Subcommand = Subcommand {
     name: "scrub",
     about: "Compares the data of the components that are ACTIVE",
-    takes: Takes::BenchAndMirror,
+    more: COMPARING,
+    takes: &[
+        REGISTRY_THERE,
+        SHELF,
+        EXPLAIN,
+        WAIT,
+        JSON,
+        QUIET,
+        MIRROR_IF_ANY,
+    ],
 };
 
 pub(crate) const REPLACE: Subcommand = Subcommand {
     name: "replace",
     about: "Puts an image in the place of another",
-    takes: Takes::BenchAndImages,
+    more: REPLACING,
+    takes: &[
+        REGISTRY_THERE,
+        SHELF,
+        EXPLAIN,
+        WAIT,
+        UNCHECKED,
+        FORCE,
+        QUIET,
+        FIRST_KEY,
+        MIRROR,
+        OLD,
+        NEW,
+    ],
 };
 
 pub(crate) const WRITE: Subcommand = Subcommand {
     name: "write",
     about: "Writes the data of a file into a mirror",
-    takes: Takes::BenchAndFile,
+    more: WRITING,
+    takes: &[
+        REGISTRY_THERE,
+        SHELF,
+        EXPLAIN,
+        WAIT,
+        UNCHECKED,
+        FORCE,
+        QUIET,
+        FIRST_KEY,
+        MIRROR,
+        FIRST,
+        FILE,
+    ],
 };
 
 const SUBCOMMANDS: [Subcommand; 15] = [
@@ -283,40 +350,49 @@ const SUBCOMMANDS: [Subcommand; 15] = [
     Subcommand {
         name: "taste",
         about: "Prints which mirrors the images of a folder tell of by themselves",
-        takes: Takes::Folder,
+        more: "",
+        takes: &[SHELF, JSON, EXPLAIN],
     },
     PENDING,
     RECOVER,
     Subcommand {
         name: "status",
         about: "Shows in a few lines how the mirrors stand",
-        takes: Takes::Bench,
+        more: "",
+        takes: &[REGISTRY, SHELF, EXISTING, EXPLAIN, WAIT, JSON, READ_ONLY],
     },
     Subcommand {
         name: "list",
         about: "Shows all that is known of the mirrors and their components",
-        takes: Takes::Bench,
+        more: "",
+        takes: &[REGISTRY, SHELF, EXISTING, EXPLAIN, WAIT, JSON, READ_ONLY],
     },
     Subcommand {
         name: "audit",
         about: "Lists the components whose images aren't as they are registered",
-        takes: Takes::Bench,
+        more: "",
+        takes: &[REGISTRY, SHELF, EXISTING, EXPLAIN, WAIT, JSON, READ_ONLY],
     },
     SCRUB,
     Subcommand {
         name: "check",
         about: "Says whether all is well, and writes nothing",
-        takes: Takes::BenchAndData,
+        more: CHECKING,
+        takes: &[REGISTRY_THERE, SHELF, EXPLAIN, WAIT, DATA, JSON, QUIET],
     },
     Subcommand {
         name: "do",
         about: "Carries out one command under a key",
-        takes: Takes::BenchAndCommand,
+        more: WORDS,
+        takes: &[
+            REGISTRY, SHELF, EXISTING, EXPLAIN, WAIT, JSON, UNCHECKED, FORCE, KEY, COMMAND,
+        ],
     },
     Subcommand {
         name: "batch",
         about: "Carries out the commands of standard input, a line each",
-        takes: Takes::BenchAndLines,
+        more: LINES,
+        takes: &[REGISTRY, SHELF, EXISTING, EXPLAIN, WAIT, AUDIT, STOP],
     },
     REPLACE,
     WRITE,
@@ -324,8 +400,16 @@ const SUBCOMMANDS: [Subcommand; 15] = [
     Subcommand {
         name: "serve",
         about: "Answers requests over HTTP, on 127.0.0.1 alone",
-        takes: Takes::BenchAndRequests,
+        more: REQUESTS,
+        takes: &[
+            REGISTRY, SHELF, EXISTING, EXPLAIN, WAIT, PORT, COUNT, LOG, AUDIT, ANY_ORIGIN,
+        ],
     },
+];
+
+// What each command that changes mirrors takes beside its own words.
+const BESIDE_WORDS: &[Argument] = &[
+    REGISTRY, SHELF, EXISTING, EXPLAIN, WAIT, JSON, UNCHECKED, FORCE, OWN_KEY,
 ];
 
 // The subcommand of this name.
@@ -344,178 +428,19 @@ pub(crate) fn is_subcommand(word: &str) -> bool {
 /// Whether a subcommand has this name that is about a registry.
 pub(crate) fn is_at_registry(word: &str) -> bool {
     match subcommand_named(word) {
-        Some(subcommand) => !matches!(subcommand.takes, Takes::Image | Takes::Folder),
+        Some(subcommand) => subcommand.takes.iter().any(|it| it.word == REGISTRY.word),
         None => false,
     }
 }
 
-fn with_image<'a>(
-    alloc: Global,
-    command: Command<'a>,
-    settings: Settings<'a>,
-) -> Result<Command<'a>, AllocError> {
-    command
-        .arg(shelf_option(alloc, settings))?
-        .arg(json_option(alloc))?
-        .arg(explain_option(alloc))?
-        .arg(provider_name(alloc))
-}
-
-fn with_folder<'a>(
-    alloc: Global,
-    command: Command<'a>,
-    settings: Settings<'a>,
-) -> Result<Command<'a>, AllocError> {
-    command
-        .arg(shelf_option(alloc, settings))?
-        .arg(json_option(alloc))?
-        .arg(explain_option(alloc))
-}
-
-fn with_registry<'a>(
-    alloc: Global,
-    command: Command<'a>,
-    settings: Settings<'a>,
-) -> Result<Command<'a>, AllocError> {
-    command
-        .arg(registry_there(alloc, settings))?
-        .arg(shelf_if_any(alloc))?
-        .arg(json_option(alloc))?
-        .arg(explain_option(alloc))?
-        .arg(wait_option(alloc))
-}
-
-fn with_bench<'a>(
-    alloc: Global,
-    command: Command<'a>,
-    settings: Settings<'a>,
-) -> Result<Command<'a>, AllocError> {
-    command
-        .arg(registry_option(alloc, settings))?
-        .arg(shelf_option(alloc, settings))?
-        .arg(existing_option(alloc))?
-        .arg(explain_option(alloc))?
-        .arg(wait_option(alloc))
-}
-
-fn with_bench_there<'a>(
-    alloc: Global,
-    command: Command<'a>,
-    settings: Settings<'a>,
-) -> Result<Command<'a>, AllocError> {
-    command
-        .arg(registry_there(alloc, settings))?
-        .arg(shelf_option(alloc, settings))?
-        .arg(explain_option(alloc))?
-        .arg(wait_option(alloc))
-}
-
-fn with_look<'a>(alloc: Global, command: Command<'a>) -> Result<Command<'a>, AllocError> {
-    command
-        .arg(json_option(alloc))?
-        .arg(read_only_option(alloc))
-}
-
-fn with_loss<'a>(alloc: Global, command: Command<'a>) -> Result<Command<'a>, AllocError> {
-    command
-        .arg(json_option(alloc))?
-        .arg(without_option(alloc)?)?
-        .arg(key_option(alloc)?)
-}
-
-fn with_command<'a>(alloc: Global, command: Command<'a>) -> Result<Command<'a>, AllocError> {
-    command
-        .arg(json_option(alloc))?
-        .arg(unchecked_option(alloc))?
-        .arg(force_option(alloc))?
-        .arg(key_word(alloc))?
-        .arg(command_words(alloc))
-}
-
-fn with_lines<'a>(alloc: Global, command: Command<'a>) -> Result<Command<'a>, AllocError> {
-    command.arg(audit_option(alloc))?.arg(stop_option(alloc))
-}
-
-fn with_scope<'a>(alloc: Global, command: Command<'a>) -> Result<Command<'a>, AllocError> {
-    command
-        .arg(json_option(alloc))?
-        .arg(unchecked_option(alloc))?
-        .arg(quiet_option(alloc))?
-        .arg(mirror_name(alloc))?
-        .arg(component_name(alloc))
-}
-
-fn with_mirror<'a>(alloc: Global, command: Command<'a>) -> Result<Command<'a>, AllocError> {
-    command
-        .arg(json_option(alloc))?
-        .arg(quiet_option(alloc))?
-        .arg(mirror_name(alloc))
-}
-
-fn with_data<'a>(alloc: Global, command: Command<'a>) -> Result<Command<'a>, AllocError> {
-    command
-        .arg(data_option(alloc))?
-        .arg(json_option(alloc))?
-        .arg(quiet_option(alloc))
-}
-
-fn with_requests<'a>(alloc: Global, command: Command<'a>) -> Result<Command<'a>, AllocError> {
-    command
-        .arg(port_option(alloc))?
-        .arg(count_option(alloc))?
-        .arg(log_option(alloc))?
-        .arg(audit_option(alloc))?
-        .arg(origin_option(alloc))
-}
-
-// What hands in several commands.
-fn with_commands<'a>(alloc: Global, command: Command<'a>) -> Result<Command<'a>, AllocError> {
-    command
-        .arg(unchecked_option(alloc))?
-        .arg(force_option(alloc))?
-        .arg(quiet_option(alloc))?
-        .arg(first_key_option(alloc))?
-        .arg(name_wanted(alloc, "name", "NAME", "The name of a mirror"))
-}
-
-fn with_images<'a>(alloc: Global, command: Command<'a>) -> Result<Command<'a>, AllocError> {
-    let old = "The image that is taken out";
-    let new = "The image that takes its place";
-    with_commands(alloc, command)?
-        .arg(name_wanted(alloc, "old", "OLD", old))?
-        .arg(name_wanted(alloc, "new", "NEW", new))
-}
-
-fn with_file<'a>(alloc: Global, command: Command<'a>) -> Result<Command<'a>, AllocError> {
-    with_commands(alloc, command)?
-        .arg(first_option(alloc))?
-        .arg(file_option(alloc))
-}
-
 impl Subcommand {
-    // What its help says below its options.
-    fn more(self) -> Option<&'static str> {
-        match self.takes {
-            Takes::Image | Takes::Folder | Takes::Bench => None,
-            Takes::Registry => Some(WRITES),
-            Takes::BenchAndLoss => Some(LOSSES),
-            Takes::BenchAndLines => Some(LINES),
-            Takes::BenchAndCommand => Some(WORDS),
-            Takes::BenchAndScope => Some(FILLING),
-            Takes::BenchAndMirror => Some(COMPARING),
-            Takes::BenchAndData => Some(CHECKING),
-            Takes::BenchAndRequests => Some(REQUESTS),
-            Takes::BenchAndImages => Some(REPLACING),
-            Takes::BenchAndFile => Some(WRITING),
-        }
-    }
-
     // The command of its name, without options.
     fn bare<'a>(self, alloc: Global) -> Command<'a> {
         let command = Command::new(alloc, self.name).about(self.about);
-        match self.more() {
-            Some(text) => command.after_help(text),
-            None => command,
+        if self.more.is_empty() {
+            command
+        } else {
+            command.after_help(self.more)
         }
     }
 
@@ -524,34 +449,7 @@ impl Subcommand {
         alloc: Global,
         settings: Settings<'a>,
     ) -> Result<Command<'a>, AllocError> {
-        let command = self.bare(alloc);
-        match self.takes {
-            Takes::Image => return with_image(alloc, command, settings),
-            Takes::Folder => return with_folder(alloc, command, settings),
-            Takes::Registry => return with_registry(alloc, command, settings),
-            _ => {}
-        }
-        let command = match self.takes {
-            Takes::BenchAndScope
-            | Takes::BenchAndMirror
-            | Takes::BenchAndData
-            | Takes::BenchAndImages
-            | Takes::BenchAndFile => with_bench_there(alloc, command, settings)?,
-            _ => with_bench(alloc, command, settings)?,
-        };
-        match self.takes {
-            Takes::Image | Takes::Folder | Takes::Registry => Ok(command),
-            Takes::Bench => with_look(alloc, command),
-            Takes::BenchAndLoss => with_loss(alloc, command),
-            Takes::BenchAndLines => with_lines(alloc, command),
-            Takes::BenchAndCommand => with_command(alloc, command),
-            Takes::BenchAndScope => with_scope(alloc, command),
-            Takes::BenchAndMirror => with_mirror(alloc, command),
-            Takes::BenchAndData => with_data(alloc, command),
-            Takes::BenchAndRequests => with_requests(alloc, command),
-            Takes::BenchAndImages => with_images(alloc, command),
-            Takes::BenchAndFile => with_file(alloc, command),
-        }
+        with_arguments(alloc, self.bare(alloc), self.takes, settings)
     }
 }
 
@@ -561,12 +459,8 @@ fn command_by_itself<'a>(
     command: ByItself,
     settings: Settings<'a>,
 ) -> Result<Command<'a>, AllocError> {
-    let command = with_bench(alloc, command.command(alloc)?, settings)?;
-    command
-        .arg(json_option(alloc))?
-        .arg(unchecked_option(alloc))?
-        .arg(force_option(alloc))?
-        .arg(own_key_option(alloc))
+    let command = command.command(alloc, settings)?;
+    with_arguments(alloc, command, BESIDE_WORDS, settings)
 }
 
 fn subcommands<'a>(alloc: Global, settings: Settings<'a>) -> Result<Vec<Command<'a>>, AllocError> {

@@ -6,7 +6,7 @@ ghost use Rattle.gm_bench.specs.Phases.{TakesCommands};
 ghost use Rattle.gm_process.specs.Statuses.{MayRefuse};
 ghost use Rattle.gm_handing_in.specs.Ends.{fault_of_front, status_of_end};
 
-use crate::explainer::Explainer;
+use gm_answers::Explainer;
 use gm_bench::{Bench, Unwatched};
 use gm_faults::Fault;
 use gm_front::{

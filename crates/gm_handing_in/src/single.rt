@@ -6,10 +6,8 @@ ghost use Rattle.gm_bench.specs.Phases.{TakesCommands};
 ghost use Rattle.gm_front.specs.Outcomes.{is_refused};
 ghost use Rattle.gm_process.specs.Statuses.{MayRefuse, status_of_refused};
 
-use crate::explainer::Explainer;
 use crate::lost_by::lets_go;
-use crate::tip::say_tip;
-use gm_answers::{outcome_in, withheld_in};
+use gm_answers::{Explainer, outcome_in, say_tip, withheld_in};
 use gm_bench::Bench;
 use gm_command_line::{Checks, Form};
 use gm_commands::is_key;

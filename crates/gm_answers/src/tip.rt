@@ -51,7 +51,7 @@ fn say_place<E: Write>(complaints: &mut E, words: &[&str], key: &str) {
 
 /// Tells whoever wrote no command, but an option of `do` after the key, or no key, where it
 /// belongs.
-pub(crate) fn say_tip<E: Write>(complaints: &mut E, words: &[&str], outcome: &Outcome<'_>) {
+pub fn say_tip<E: Write>(complaints: &mut E, words: &[&str], outcome: &Outcome<'_>) {
     if let Outcome::Wrong(key) = *outcome {
         say_place(complaints, words, key);
     }

@@ -1,5 +1,6 @@
 //! Sentences on the complaints: why a command is refused.
 
+use crate::folder::Folder;
 use crate::reason::Known;
 use crate::withheld::say_withheld;
 use gm_bench::Answer;
@@ -11,7 +12,6 @@ use gm_metadata::Label;
 use gm_process::Explaining;
 use gm_refusals::{CallRefusal, Refusal};
 use gm_sentences::{About, Image, call_sentence, images_in_a_row};
-use gm_shelf::{FileShelf, Shelf};
 use gm_state::State;
 use gm_words::{read_words, words_complaint};
 use std::alloc::AllocError;
@@ -24,63 +24,46 @@ const COMPONENT_AWAY: &str = "IMAGE isn't on the shelf; audit names it";
 /// Explains refusals, if that is wanted. What can't be told isn't, and what it looks at it looks at
 /// by itself: the bench is asked nothing.
 #[derive(Drop)]
-pub(crate) struct Explainer<'a, E> {
-    rt: &'a HostRuntime,
+pub struct Explainer<'a, E> {
+    folder: Folder<'a>,
     complaints: &'a mut E,
-    explaining: &'a Explaining,
+    // whether refusals are explained
+    wanted: bool,
     // the mirrors as they are now, if they are known
     state: Option<&'a State>,
 }
 
 impl<'a, E: Write> Explainer<'a, E> {
-    pub(crate) fn new(
+    /// One that knows the folder, and tells what it knows on the complaints.
+    pub fn new(
         rt: &'a HostRuntime,
         complaints: &'a mut E,
         explaining: &'a Explaining,
     ) -> Explainer<'a, E> {
         Explainer {
-            rt,
+            folder: Folder::of(rt, explaining),
             complaints,
-            explaining,
+            wanted: explaining.wanted,
             state: None,
         }
     }
 
     /// One that knows the mirrors as they are now, if they are given.
-    pub(crate) fn knowing(self, state: Option<&'a State>) -> Explainer<'a, E> {
+    pub fn knowing(self, state: Option<&'a State>) -> Explainer<'a, E> {
         Explainer {
-            rt: self.rt,
+            folder: self.folder,
             complaints: self.complaints,
-            explaining: self.explaining,
+            wanted: self.wanted,
             state,
         }
-    }
-
-    // How many sectors an image has in the folder, as it is now.
-    fn sectors(&self, image: Label) -> Option<u64> {
-        let shelf = FileShelf::look_at(self.rt, self.explaining.folder.as_str(), &[image]).ok()?;
-        shelf.sectors(image)
-    }
-
-    // The first of these images that isn't in the folder.
-    fn first_absent(&self, images: &[Label]) -> Option<Label> {
-        for image in images {
-            if self.sectors(*image).is_none() {
-                return Some(*image);
-            }
-        }
-        None
     }
 
     // The image that isn't in the folder, of those that the command names.
     fn absent_of(&self, command: &Command, about: &About) -> Option<Label> {
         match &about.image {
             Image::Unnamed => None,
-            Image::Named(image) => match self.sectors(*image) {
-                Some(_) => None,
-                None => Some(*image),
-            },
-            Image::OneOfSeveral => self.first_absent(images_in_a_row(command)),
+            Image::Named(image) => self.folder.first_absent(&[*image]),
+            Image::OneOfSeveral => self.folder.first_absent(images_in_a_row(command)),
         }
     }
 
@@ -103,8 +86,7 @@ impl<'a, E: Write> Explainer<'a, E> {
         match (self.state, why) {
             (Some(state), CallRefusal::ByRules(why)) => {
                 let known = Known {
-                    rt: self.rt,
-                    explaining: self.explaining,
+                    folder: self.folder,
                     state,
                 };
                 known.sentence(command, *why)
@@ -115,7 +97,7 @@ impl<'a, E: Write> Explainer<'a, E> {
 
     // Why these words are no command, or why the command is refused that they are.
     fn sentence(&self, words: &[&str], why: Option<CallRefusal>) -> Result<String, AllocError> {
-        let alloc = self.rt.alloc();
+        let alloc = self.folder.alloc();
         match (read_words(alloc, words)?, why) {
             (Ok(command), Some(why)) => {
                 if let Some(sentence) = self.by_state(&command, &why)? {
@@ -138,14 +120,14 @@ impl<'a, E: Write> Explainer<'a, E> {
     }
 
     /// Why a command is withheld under a key, and how it is carried out all the same.
-    pub(crate) fn explain_withheld(&mut self, key: &str, list: &[Unlike], all_the_same: &str) {
-        if self.explaining.wanted {
+    pub fn explain_withheld(&mut self, key: &str, list: &[Unlike], all_the_same: &str) {
+        if self.wanted {
             say_withheld(self.complaints, key, list, all_the_same);
         }
     }
 
     /// When a command was done that is repeated.
-    pub(crate) fn explain_repeated(&mut self, outcome: &Outcome<'_>) {
+    pub fn explain_repeated(&mut self, outcome: &Outcome<'_>) {
         if let Outcome::Answered(key, Answer::Repeated(number, _)) = *outcome {
             let _ = writeln!(
                 self.complaints,
@@ -155,8 +137,8 @@ impl<'a, E: Write> Explainer<'a, E> {
     }
 
     /// Why the command of these words is refused under a key, by what it came to.
-    pub(crate) fn explain(&mut self, words: &[&str], outcome: &Outcome<'_>) {
-        if !self.explaining.wanted {
+    pub fn explain(&mut self, words: &[&str], outcome: &Outcome<'_>) {
+        if !self.wanted {
             return;
         }
         let (key, number, why) = match *outcome {
@@ -189,7 +171,7 @@ impl<'a, E: Write> Explainer<'a, E> {
                 return Ok(());
             }
         }
-        let pieces = pieces(self.rt.alloc(), text)?;
+        let pieces = pieces(self.folder.alloc(), text)?;
         if let Some((_, words)) = pieces.as_slice().split_first() {
             self.explain(words, outcome);
         }
@@ -199,7 +181,7 @@ impl<'a, E: Write> Explainer<'a, E> {
 
 impl<E: Write> Listener for Explainer<'_, E> {
     fn answered(&mut self, line: Option<&[u8]>, outcome: &Outcome<'_>) {
-        if self.explaining.wanted && outcome.is_refused() {
+        if self.wanted && outcome.is_refused() {
             let _ = self.explain_line(line, outcome);
         }
     }

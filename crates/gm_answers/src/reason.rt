@@ -1,37 +1,28 @@
 //! More than a refusal's number says of it, by the mirrors and the folder as they are.
 
+use crate::folder::Folder;
 use gm_commands::Command;
 use gm_metadata::Label;
-use gm_process::Explaining;
 use gm_refusals::{Refusal, providers_of};
 use gm_sentences::About;
-use gm_shelf::{FileShelf, Shelf};
 use gm_state::{Component, ComponentState, State, bytes_of, component_state};
-use std::alloc::{AllocError, Global};
+use std::alloc::AllocError;
 
 /// The mirrors and the folder, by which a refusal is explained.
 #[derive(Clone, Copy)]
 pub(crate) struct Known<'a> {
-    pub(crate) rt: &'a HostRuntime,
-    pub(crate) explaining: &'a Explaining,
+    pub(crate) folder: Folder<'a>,
     pub(crate) state: &'a State,
 }
 
 impl Known<'_> {
-    // How many sectors an image has in the folder.
-    fn sectors(self, image: Label) -> Option<u64> {
-        let folder = self.explaining.folder.as_str();
-        let shelf = FileShelf::look_at(self.rt, folder, &[image]).ok()?;
-        shelf.sectors(image)
-    }
-
     // The first component of a mirror whose image isn't there in its size.
     fn absent_component(self, mirror: Label) -> Option<Component> {
         for component in self.state.components() {
             if component.mirror != mirror {
                 continue;
             }
-            if self.sectors(component.provider) != Some(u64::from(component.sectors)) {
+            if self.folder.sectors(component.provider) != Some(u64::from(component.sectors)) {
                 return Some(*component);
             }
         }
@@ -39,7 +30,7 @@ impl Known<'_> {
     }
 
     fn absent(self, about: &About) -> Result<Option<String>, AllocError> {
-        let alloc = self.rt.alloc();
+        let alloc = self.folder.alloc();
         let Some(component) = about
             .mirror
             .and_then(|mirror| self.absent_component(mirror))
@@ -56,9 +47,9 @@ impl Known<'_> {
     }
 
     fn too_small(self, about: &About, image: Label) -> Result<Option<String>, AllocError> {
-        let alloc = self.rt.alloc();
+        let alloc = self.folder.alloc();
         let mirror = about.mirror.and_then(|mirror| self.state.mirror(mirror));
-        let (Some(mirror), Some(sectors)) = (mirror, self.sectors(image)) else {
+        let (Some(mirror), Some(sectors)) = (mirror, self.folder.sectors(image)) else {
             return Ok(None);
         };
         let name = mirror.name;
@@ -72,7 +63,7 @@ impl Known<'_> {
 
     // The first component of a mirror that isn't filled, and the way on.
     fn unfilled(self, mirror: Label) -> Result<Option<String>, AllocError> {
-        let alloc = self.rt.alloc();
+        let alloc = self.folder.alloc();
         for component in self.state.components() {
             if component.mirror != mirror {
                 continue;
@@ -103,7 +94,7 @@ impl Known<'_> {
     ) -> Result<Option<String>, AllocError> {
         let about = About::command(command);
         match (why, about.mirror, providers_of(command)) {
-            (Refusal::Absent, _, named) if named.iter().all(|it| self.sectors(*it).is_some()) => {
+            (Refusal::Absent, _, named) if self.folder.first_absent(named).is_none() => {
                 self.absent(&about)
             }
             (Refusal::TooSmall, _, [image]) => self.too_small(&about, *image),
