@@ -131,7 +131,7 @@ pub(crate) struct ByItself {
     words: &'static [Argument],
 }
 
-const COMMANDS: [ByItself; 14] = [
+static COMMANDS: [ByItself; 14] = [
     ByItself {
         name: "label",
         about: "Makes a mirror of an image",

@@ -408,7 +408,7 @@ const SUBCOMMANDS: [Subcommand; 15] = [
 ];
 
 // What each command that changes mirrors takes beside its own words.
-const BESIDE_WORDS: &[Argument] = &[
+static BESIDE_WORDS: [Argument; 9] = [
     REGISTRY, SHELF, EXISTING, EXPLAIN, WAIT, JSON, UNCHECKED, FORCE, OWN_KEY,
 ];
 
@@ -460,7 +460,7 @@ fn command_by_itself<'a>(
     settings: Settings<'a>,
 ) -> Result<Command<'a>, AllocError> {
     let command = command.command(alloc, settings)?;
-    with_arguments(alloc, command, BESIDE_WORDS, settings)
+    with_arguments(alloc, command, &BESIDE_WORDS, settings)
 }
 
 fn subcommands<'a>(alloc: Global, settings: Settings<'a>) -> Result<Vec<Command<'a>>, AllocError> {
