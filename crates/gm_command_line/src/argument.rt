@@ -87,7 +87,7 @@ impl Argument {
     }
 
     // What clap is told of it but for when it must be given.
-    fn taken<'a>(self, alloc: Global) -> Arg<'a> {
+    fn taken(self, alloc: Global) -> Arg<'static> {
         let arg = Arg::new(alloc, self.id()).help(self.help);
         let arg = match self.is_name() {
             true => arg,
@@ -110,7 +110,7 @@ impl Argument {
         }
     }
 
-    fn arg<'a>(self, alloc: Global, settings: Settings<'a>) -> Result<Arg<'a>, AllocError> {
+    fn arg(self, alloc: Global, settings: Settings<'_>) -> Result<Arg<'static>, AllocError> {
         let arg = self.taken(alloc);
         match (self.given, self.need) {
             (Given::All, _) => arg.conflicts_with_all(&["name", "json"]),
