@@ -135,8 +135,8 @@ fn files_at(rt: &HostRuntime, path: &str) -> Result<Files<File>, Error>
 pub fn open_store(rt: &HostRuntime, path: &str) -> Result<Connection<FileStore<File>>, Error>
     ensures { IfOk result (λ c. HasCleanDisk (file_state c) → IsOpened c) }
 {
-    let files = files_at(rt, path)?;
     let random = RandomState::new(rt).map_err(|_| CANNOT_OPEN)?;
+    let files = files_at(rt, path)?;
     match open_files(rt.alloc(), files, Options::new(random.hash_one(&0u8))) {
         Ok(store) => Ok(store),
         Err((error, _)) => Err(error),

@@ -87,12 +87,12 @@ fn opening_fault(fault: StoreFault, files: Files<OverlayDisk>) -> StoreFault {
     }
 }
 
-// The registry of a store.
+// The registry of a store. What isn't kept is closed, since to drop a whole store is dear to prove.
 fn registry_in(
     store: Connection<FileStore<OverlayDisk>>,
 ) -> Result<Registry<FileStore<OverlayDisk>>, StoreFault> {
     if !store.is_autocommit() {
-        return Err(StoreFault::Store);
+        return Err(opening_fault(StoreFault::Store, store.into_store().close()));
     }
     match Registry::open(store) {
         Ok(registry) => Ok(registry),
@@ -135,5 +135,7 @@ fn read_whole<S: Alter>(alloc: Global, registry: &mut Registry<S>) -> Result<Who
 /// open, or if its journal holds anything; `Unreadable` if an opening would say so.
 pub fn records_of(rt: &HostRuntime, registry: &str) -> Result<Whole, StoreFault> {
     let mut opened = registry_at(rt, registry)?;
-    read_whole(rt.alloc(), &mut opened)
+    let whole = read_whole(rt.alloc(), &mut opened);
+    let _files = opened.close().into_store().close();
+    whole
 }
