@@ -66,6 +66,38 @@ printf 'k9 destroy gm9\nk5 activate gm0 b.img\n' >"$work/lines"
 at_bench batch --audit --stop <"$work/lines"
 expect 'with both options it ends at the first line that is refused' 1 'k9 refused 5' ''
 
+# Of which images a command is: b.img of gm0 carries nothing any more, and c.img never did. A list of commands, each with what
+# is answered.
+fresh_bench of-which
+put_image "$bench/images/c.img" c bare
+batch "$label$insert"
+put_image "$bench/images/b.img" b bare
+keep_bench
+wrong=
+while IFS='|' read -r command told; do
+    echo "k3 $command" >"$work/lines"
+    at_bench batch --audit <"$work/lines"
+    [ "$told" = amiss ] && told='k3 not done
+b.img no metadata'
+    if [ "$status" != 1 ] || [ "$(cat "$work/output")" != "$told" ] || [ -s "$work/complaints" ]; then
+        wrong=${wrong:-"$command: status $status, '$(cat "$work/output" "$work/complaints")', and not '$told'"}
+    fi
+done <<'END'
+insert --did 3 gm0 c.img|amiss
+remove gm0 a.img|amiss
+clear b.img|amiss
+adopt gm9 c.img b.img|amiss
+lost gm0 a.img|amiss
+clear a.img|k3 refused 9
+insert --did 3 gm9 c.img|k3 refused 5
+END
+[ -z "$wrong" ] && pass 'a command is not done if an image that it is about is amiss' ||
+    fail 'a command is not done if an image that it is about is amiss' "$wrong"
+expect_kept 'and nothing of it was written'
+echo 'k3 lost gm0 b.img' >"$work/lines"
+at_bench batch --audit <"$work/lines"
+expect 'the image that is given up may be as it is' 0 'k3 ok 3' ''
+
 # What is pending is carried out before the first look.
 stopped_remove pending
 printf 'k4 destroy gm0\n' >"$work/lines"
