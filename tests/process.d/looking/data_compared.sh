@@ -17,14 +17,27 @@ expect_kept 'it wrote nothing'
 at_bench scrub gm0
 [ "$status" = 0 ] && [ ! -s "$work/output" ] && tail -n 1 "$work/complaints" | grep -qx 'b.img 100%: 128.5 of 128.5 KiB' &&
     pass 'it says how far it is' || fail 'it says how far it is' "status $status, '$(cat "$work/complaints")'"
-for place in 0 65000 131583; do
+# A list of places in the data of b.img, each with what is told if the bytes there are others, of all mirrors and of this one.
+while IFS='|' read -r places told; do
     put_back
-    damage "$bench/images/b.img" $place z
+    for place in $places; do
+        damage "$bench/images/b.img" "$place" z
+    done
     at_bench scrub --quiet
-    expect "a byte that is another at $place" 1 "b.img differs in 1 sector, first $((place / 512))" ''
+    expect "bytes that are others at $places" 1 "$told" ''
+    at_bench scrub --quiet gm0
+    expect 'the same of that mirror' 1 "$told" ''
     at_bench audit
     expect 'an audit sees nothing of it' 0 '' ''
-done
+done <<'END'
+0|b.img differs in 1 sector, first 0
+65000|b.img differs in 1 sector, first 126
+131583|b.img differs in 1 sector, first 256
+131583 65000|b.img differs in 2 sectors, first 126
+131583 65000 0|b.img differs in 3 sectors, first 0
+0 511|b.img differs in 1 sector, first 0
+511 512|b.img differs in 2 sectors, first 0
+END
 put_back
 damage "$bench/images/b.img" 600 z
 damage "$bench/images/b.img" 70000 z
