@@ -76,6 +76,14 @@ rm "$bench/images/b.img"
 batch "k4 patch --first 3 --data $one gm0\n"
 expect 'while one is away' 1 'k4 refused 8' ''
 
+# One that was added and has other data.
+fresh_bench inserted
+batch "$label$insert"
+expect_list 'while one that was added is to be filled' 1 <<END
+k3 patch --first 2 --data $one gm0|k3 refused 30
+END
+expect_images 'no image is written by it' pending-a pending-b
+
 # An adopted mirror with the greatest syncid.
 fresh_bench greatest
 put_told a.img 3 a all=1 syncid=4294967295
@@ -90,6 +98,9 @@ cp "$bench/images/b.img" "$work/b.img"
 batch "k5 patch --first 0 --data $one gm0\n"
 expect 'a patch beside a component out of use' 0 'k5 ok 5' ''
 expect_same 'that one is not written' "$bench/images/b.img" "$work/b.img"
+expect_sectors 'the other has it' a.img "$byte_of_one" 0 1
+expect_sectors 'the other keeps the others' a.img a 1 2
+expect_told 'a dump of the other' a.img 'gm0 7 1 2 0 3 0 4096 load 1536 0 NONE NONE (none) 2048'
 expect_records 'what is registered then' <<'END'
 gm0 DEGRADED 7 2 0 3 load 4096 NONE 1536
 a.img ACTIVE 1 0 3 NONE 0 2048 no
@@ -97,7 +108,11 @@ b.img INACTIVE 2 0 1 INACTIVE 0 2048 no
 END
 batch 'k6 activate gm0 b.img\nk7 advance gm0 b.img\n'
 expect 'it is filled anew' 0 "$(lines 'k6 ok 6\nk7 ok 7 copied 3 of 3')" ''
-expect_sectors 'it has what was patched' b.img "$byte_of_one" 0 1
+for letter in a b; do
+    expect_sectors "$letter.img has what was patched" "$letter.img" "$byte_of_one" 0 1
+    expect_sectors "$letter.img has the others as they were" "$letter.img" a 1 2
+done
+expect_told 'a dump of the one that was filled' b.img 'gm0 7 2 2 0 3 0 4096 load 1536 0 NONE NONE (none) 2048'
 at_bench scrub --quiet
 expect 'their data are equal then' 0 '' ''
 
