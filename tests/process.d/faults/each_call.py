@@ -1,10 +1,11 @@
-"""Each call on a file of `sync`, `replace`, `write`, `scrub`, `check`, `pending` and looks with --read-only, which fails once.
+"""Each call on a file of `sync`, `replace`, `write`, `scrub`, `check`, `pending`, `taste` and looks with --read-only, which
+fails once.
 
     each_call.py PROGRAM PRELOADED FOLDER
 
 A run whose call fails ends with a fault, or does all of its work. What only looks changes nothing, or, if it recovers
 first, no more than that does. After a `sync`, a `replace` or a `write` that failed the same words make of the images what they
-make if nothing fails.
+make if nothing fails. Lines that repeat a command make no call on an image.
 """
 
 import sys
@@ -14,12 +15,13 @@ from bench_folder import Bench
 program, preloaded, work = sys.argv[1:4]
 place = Bench(program, work)
 SECTORS = 301
+TASTE = ["taste"]
 FAULTS = ["gmbench: F2 store\n", "gmbench: F3 disk\n", "gmbench: input or output\n"]
 wrong = []
 
 
 def run(words, lines=b"", **more):
-    return place.run(words, lines, LD_PRELOAD=preloaded, **more)
+    return place.run(words, lines, registry=words != TASTE, LD_PRELOAD=preloaded, **more)
 
 
 def images_of(found):
@@ -111,12 +113,38 @@ def is_done_again(words):
     return behind
 
 
+def asks_no_image(begins_with, rows):
+    """Lines are answered so, though the first call on an image would fail, and change nothing."""
+    place.put_back(begins_with)
+    lines, told = ["".join(f"{row[part]}\n" for row in rows) for part in (0, 1)]
+    ended = run(["batch"], lines.encode(), WITHIN=place.images + "/", FAIL="1", COUNT=place.count_file)
+    if ended != (1, told, "") or place.count() != 0:
+        wrong.append(f"{ended!r} after {place.count()} calls, and not {told!r}")
+    before, after = place.contents(begins_with), place.contents()
+    if images_of(after) != images_of(before) or after["registry"] != before["registry"]:
+        wrong.append("something is changed")
+    shown = f"{len(rows)} lines that repeat a command, or other words under its key, make no call on an image"
+    print(f"failed {shown}: {wrong[0]}" if wrong else f"ok {shown}", flush=True)
+    wrong.clear()
+
+
 make_bench()
 place.keep("made")
+asks_no_image("made", [
+    ("k0 label --mid 7 --did 1 gm0 a.img", "k0 repeated 1"),
+    ("k0 label --did 1 --mid 7 --slice 4096 gm0 a.img", "k0 repeated 1"),
+    ("k0 destroy gm0", "k0 refused 3"),
+    ("k0 label --mid 8 --did 1 gm0 a.img", "k0 refused 3"),
+    ("k0 gm0 a.img", "k0 refused 1"),
+    ("k3 advance gm0 b.img", "k3 repeated 4"),
+    ("k3 advance gm0 c.img", "k3 refused 3"),
+    ("k4 insert --priority 0 --did 3 gm0 c.img", "k4 repeated 5"),
+])
+place.put_back("made")
 run(["batch"], b"k6 advance gm0 c.img\n", WITHIN=place.images + "/", FAIL="9")
 place.keep("stopped")
 assert run(["pending"])[1] != "", "nothing is pending"
-LOOKS = (["pending"], ["status", "--read-only"], ["list", "--read-only"], ["audit", "--read-only"], ["check", "--data", "--quiet"])
+LOOKS = (["pending"], TASTE, ["status", "--read-only"], ["list", "--read-only"], ["audit", "--read-only"], ["check", "--data", "--quiet"])
 for look in LOOKS:
     try_each(" ".join(look), look, "stopped", is_as_kept("stopped"))
 try_each("scrub", ["scrub", "--quiet"], "made", images_stay)

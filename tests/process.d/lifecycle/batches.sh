@@ -1,5 +1,6 @@
 # Lines that are carried out, refused or repeated; one at a time, and two batches at once.
 . "$helpers/under_way.sh"
+. "$helpers/lists.sh"
 
 # ---- lines that are carried out
 
@@ -34,6 +35,23 @@ expect 'a batch with a refused line' 1 "$(lines 'k6 refused 5\nk7 ok 6')" ''
 expect_images 'a mirror that is dropped leaves bare sectors' bare bare
 at_bench list
 expect 'a list without mirrors' 0 'no mirrors' ''
+
+# A key repeats its command, and refuses others, whatever became of the images.
+fresh_bench away
+batch "$label"
+mv "$bench/images" "$bench/elsewhere"
+mkdir "$bench/images"
+keep_bench
+expect_list 'a key repeats its command without the images' 1 <<'END'
+k1 label --mid 7 --did 1 gm0 a.img|k1 repeated 1
+k1 label --did 1 --mid 7 --slice 4096 gm0 a.img|k1 repeated 1
+k1 destroy gm0|k1 refused 3
+k1 label --mid 8 --did 1 gm0 a.img|k1 refused 3
+k1 gm0 a.img|k1 refused 1
+END
+expect_kept 'it changes nothing'
+at_bench status
+expect 'a status of it then' 0 "$of_one" ''
 
 # A mirror from beginning to end, a run for each line, with the registry among the images.
 fresh_bench to-and-fro
