@@ -1,6 +1,7 @@
 /* What a test preloads into the program: its Nth read or write of a standard stream or of a connection fails once, if
    FAIL_READ=N or FAIL_WRITE=N says so, and each other one of these reads gives PIECE bytes at most. COUNT names a file to which
-   the numbers of reads and writes are written at the end. */
+   the numbers of reads and writes are written at the end. With CUT_READS or CUT_WRITES the reads or the writes of a connection
+   take so many bytes in all, and fail then: none of the first connection, and one byte more of each after it. */
 #define _GNU_SOURCE
 #include <dlfcn.h>
 #include <errno.h>
@@ -11,7 +12,7 @@
 #include <sys/types.h>
 #include <unistd.h>
 
-static long reads, writes;
+static long reads, writes, connections, taken;
 
 static long number_in(const char *name)
 {
@@ -40,18 +41,56 @@ static size_t piece(size_t count)
     return most && count > most ? most : count;
 }
 
+/* How many of these bytes a call on a connection may take, if this variable cuts its bytes: none if it fails. */
+static size_t room(size_t count, const char *name)
+{
+    size_t left = connections - 1 - taken;
+    errno = EIO;
+    return getenv(name) && count > left ? left : count;
+}
+
+/* What a call took, which is counted if this variable cuts its bytes. */
+static ssize_t took(ssize_t count, const char *name)
+{
+    if (getenv(name) && count > 0)
+        taken += count;
+    return count;
+}
+
+/* The descriptor of a new connection, or none. */
+static int connected(int descriptor)
+{
+    connections += descriptor >= 0;
+    taken = 0;
+    return descriptor;
+}
+
+int accept(int descriptor, struct sockaddr *address, socklen_t *length)
+{
+    int (*next)(int, struct sockaddr *, socklen_t *) = dlsym(RTLD_NEXT, "accept");
+    return connected(next(descriptor, address, length));
+}
+
+int accept4(int descriptor, struct sockaddr *address, socklen_t *length, int flags)
+{
+    int (*next)(int, struct sockaddr *, socklen_t *, int) = dlsym(RTLD_NEXT, "accept4");
+    return connected(next(descriptor, address, length, flags));
+}
+
 ssize_t read(int descriptor, void *bytes, size_t count)
 {
     ssize_t (*next)(int, void *, size_t) = dlsym(RTLD_NEXT, "read");
     if (!is_stream(descriptor, 0))
         return next(descriptor, bytes, count);
-    return fails(++reads, "FAIL_READ") ? -1 : next(descriptor, bytes, piece(count));
+    count = room(piece(count), "CUT_READS");
+    return fails(++reads, "FAIL_READ") || !count ? -1 : took(next(descriptor, bytes, count), "CUT_READS");
 }
 
 ssize_t recv(int descriptor, void *bytes, size_t count, int flags)
 {
     ssize_t (*next)(int, void *, size_t, int) = dlsym(RTLD_NEXT, "recv");
-    return fails(++reads, "FAIL_READ") ? -1 : next(descriptor, bytes, piece(count), flags);
+    count = room(piece(count), "CUT_READS");
+    return fails(++reads, "FAIL_READ") || !count ? -1 : took(next(descriptor, bytes, count, flags), "CUT_READS");
 }
 
 ssize_t write(int descriptor, const void *bytes, size_t count)
@@ -59,13 +98,15 @@ ssize_t write(int descriptor, const void *bytes, size_t count)
     ssize_t (*next)(int, const void *, size_t) = dlsym(RTLD_NEXT, "write");
     if (!is_stream(descriptor, 1))
         return next(descriptor, bytes, count);
-    return fails(++writes, "FAIL_WRITE") ? -1 : next(descriptor, bytes, count);
+    count = room(count, "CUT_WRITES");
+    return fails(++writes, "FAIL_WRITE") || !count ? -1 : took(next(descriptor, bytes, count), "CUT_WRITES");
 }
 
 ssize_t send(int descriptor, const void *bytes, size_t count, int flags)
 {
     ssize_t (*next)(int, const void *, size_t, int) = dlsym(RTLD_NEXT, "send");
-    return fails(++writes, "FAIL_WRITE") ? -1 : next(descriptor, bytes, count, flags);
+    count = room(count, "CUT_WRITES");
+    return fails(++writes, "FAIL_WRITE") || !count ? -1 : took(next(descriptor, bytes, count, flags), "CUT_WRITES");
 }
 
 int fdatasync(int descriptor)

@@ -1,4 +1,4 @@
-"""Requests that are cut after each byte, and of which each read and each write of the server fails once.
+"""Requests that are cut after each byte, and of which each read and each write of the server fails once, and after each byte.
 
     cut_requests.py PROGRAM PRELOADED FOLDER
 """
@@ -15,7 +15,7 @@ program, preloaded, work = sys.argv[1:4]
 bench = os.path.join(work, "bench")
 images, registry = os.path.join(bench, "images"), os.path.join(bench, "registry")
 count_file = os.path.join(work, "count")
-counts = {"cuts": 0, "reads": 0, "writes": 0}
+counts = {"cuts": 0, "reads": 0, "writes": 0, "bytes": 0}
 wrong = []
 
 
@@ -92,12 +92,28 @@ def fail(title, request, answer, again, labelled):
             check(f"{at}: the server's end", ended, (0, b""))
 
 
+def fail_after_each_byte(title, request, answer, again, labelled):
+    """The reads of each connection fail after a byte more than those of the one before: nothing is answered or done until all
+    are read, and nothing is read after that. Then the writes fail so: what was to be told was done, and stays."""
+    for call, told in [
+        ("READS", [*[b""] * len(request), answer]),
+        ("WRITES", [again[:room] for room in range(len(again) + 1)]),
+    ]:
+        put(labelled)
+        counts["bytes"] += len(told) - 1
+        found, ended = serve([request] * len(told), **{f"CUT_{call}": "yes"})
+        check(f"{title}, {call.lower()} that fail after each byte", found, told)
+        check(f"{title}, {call.lower()} that fail after each byte: the server's end", ended, (0, b""))
+
+
 cut("a label", ASKED, DONE, False)
 fail("a label", ASKED, DONE, AGAIN, False)
+fail_after_each_byte("a label", ASKED, DONE, AGAIN, False)
 for asked, told in LOOKS:
     name = asked.split()[1].decode()
     cut(name, asked, told, True)
     fail(name, asked, told, told, True)
+    fail_after_each_byte(name, asked, told, told, True)
 numbers = ", ".join(f"{number} {kind}" for kind, number in counts.items())
 name = f"requests, cut and with a call that fails ({numbers})"
 print(f"failed {name}: {len(wrong)} times, the first: {wrong[0]}" if wrong else f"ok {name}", flush=True)

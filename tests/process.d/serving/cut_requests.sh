@@ -4,8 +4,8 @@
 
 # ---- requests that are cut, and connections of which a read or a write fails
 
-# A label and the three looks, cut after each byte. Then each read and each write of their connection fails once, by a library
-# that is preloaded into the program.
+# A label and the three looks, cut after each byte. Then each read and each write of their connection fails once, and then
+# after each byte, by a library that is preloaded into the program.
 if has_python 'requests that are cut'; then
     if command -v cc >/dev/null && cc -O1 -fPIC -shared -o "$work/failing_calls.so" "$helpers/failing_calls.c" \
         2>"$work/complaints"; then
