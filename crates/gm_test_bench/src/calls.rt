@@ -31,20 +31,6 @@ pub const SYNCHRONIZING: DiskFlags = DiskFlags {
     inactive: false,
 };
 
-pub const FORCED: DiskFlags = DiskFlags {
-    dirty: false,
-    synchronizing: true,
-    force_sync: true,
-    inactive: false,
-};
-
-pub const INACTIVE: DiskFlags = DiskFlags {
-    dirty: false,
-    synchronizing: false,
-    force_sync: false,
-    inactive: true,
-};
-
 /// A command, what it is answered, and whether it was.
 #[derive(Clone, Copy)]
 pub struct Asked {
