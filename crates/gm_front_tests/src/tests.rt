@@ -5,7 +5,6 @@ mod faults;
 mod flushes;
 mod many_mirrors;
 mod readers;
-mod repeats;
 mod requests;
 mod stores;
 mod worked_rows;
@@ -13,10 +12,11 @@ mod writers;
 
 use gm_bench::{Bench, BenchFault, OpenFault, Phase};
 use gm_front::{BatchEnd, FrontFault, batch};
-use gm_shelf::{MemShelf, Shelf};
-use gm_test_media::{memory, shelf};
+use gm_shelf::{FaultShelf, MemShelf, Shelf};
+use gm_test_media::{ALL, StoreBytes, shelf};
 use gm_words::status_text;
-use sqlite::{Alter, Connection, MemStore};
+use sqlite::{Alter, Connection, FileStore, Options};
+use sqlite_disk::{Disk, Fuse, Memory};
 use std::io::{BufRead, Write};
 use std::process::Abort;
 use std::test::Fail;
@@ -30,8 +30,6 @@ const REMOVE: &str = "k3 remove gm0 b.img\n";
 const DESTROY: &str = "k4 destroy gm0\n";
 
 const NO_MIRRORS: &str = "no mirrors\n";
-
-const OF_ONE: &str = "gm0             COMPLETE 1/1\n  a.img           ACTIVE\n";
 
 // How batches end of which nothing was refused, and of which something was.
 const DONE: BatchEnd = BatchEnd::Ended { refused: false };
@@ -52,13 +50,25 @@ fn got<T>(rt: &impl Abort, outcome: Result<T, Fail>) -> T {
     }
 }
 
-fn in_memory(rt: &(impl Abort + AllocGlobal)) -> Connection<MemStore> {
-    got(rt, memory(rt.alloc()))
+// A new store of two files in memory, and below a shelf that may stop: each bench is over such, so
+// that a bench over one kind of store and shelf is all that LLVM compiles.
+fn in_memory(rt: &(impl Abort + AllocGlobal)) -> Connection<FileStore<Fuse<Memory>>> {
+    let files = got(rt, StoreBytes::new(rt.alloc()).files(rt.alloc(), ALL));
+    assert!(rt; files.may_be_used());
+    match Connection::open_files(rt.alloc(), files, Options::new(1)) {
+        Ok(store) => store,
+        Err(_) => panic!(rt; "no store"),
+    }
 }
 
 // a.img, b.img and c.img.
 fn images(rt: &(impl Abort + AllocGlobal)) -> MemShelf {
     got(rt, shelf(rt.alloc()))
+}
+
+// A shelf that serves each call.
+fn serving<H: Shelf>(shelf: H) -> FaultShelf<H> {
+    FaultShelf::stop_from(shelf, u64::MAX)
 }
 
 // So many letters, without a line feed.

@@ -207,28 +207,24 @@ fn a_shelf_that_stops_ends_a_batch(rt: HostRuntime) {
 }
 
 // A fault that can't be told is one of the output; the bench has failed all the same.
-fn isnt_told<S: Alter, H: Shelf>(rt: &(impl Abort + AllocGlobal), bench: &mut Bench<S, H>) {
-    let mut output = wide(rt.alloc());
-    output.room = 12;
-    let lines = script(rt, None);
-    let mut input = lines.as_bytes();
-    let end = try_batch(rt, &mut input, &mut output, bench);
-    let is_told = end == Err(FrontFault::Write) && output.room == 0;
-    must(rt, is_told, "another end, or the first line wasn't told");
-}
-
-fn opens_and_isnt_told<S: Alter + Drop, H: Shelf + Drop>(
+fn isnt_told<S: Alter + Drop, H: Shelf + Drop>(
     rt: &(impl Abort + AllocGlobal),
     store: Connection<S>,
     shelf: H,
 ) {
     let mut bench = open(rt, store, shelf);
-    isnt_told(rt, &mut bench);
+    let mut output = wide(rt.alloc());
+    output.room = 12;
+    let lines = script(rt, None);
+    let mut input = lines.as_bytes();
+    let end = try_batch(rt, &mut input, &mut output, &mut bench);
+    let is_told = end == Err(FrontFault::Write) && output.room == 0;
+    must(rt, is_told, "another end, or the first line wasn't told");
     is_closed(rt, &mut bench);
 }
 
 #[test]
 fn a_fault_that_cant_be_told_is_one_of_the_output(rt: HostRuntime) {
     let stopping = FaultShelf::stop_from(images(&rt), 1);
-    opens_and_isnt_told(&rt, in_memory(&rt), stopping);
+    isnt_told(&rt, in_memory(&rt), stopping);
 }

@@ -1,7 +1,6 @@
 //! Each answer is flushed before the next line is read.
 
-use super::{LABEL, REFUSED, images, in_memory, must, of_letters, open, try_batch};
-use gm_bench::Bench;
+use super::{LABEL, REFUSED, images, in_memory, must, of_letters, open, serving, try_batch};
 use gm_lines::MAX_LINE;
 use gm_shelf::Shelf;
 use sqlite::{Alter, Connection};
@@ -58,11 +57,13 @@ impl<'a> Read for Watching<'a> {
 // of one number have 8 and 14 bytes, and a refusal of `?` with one digit has 12.
 const FLUSHED: [usize; 8] = [0, 0, 8, 8, 22, 34, 46, 54];
 
-fn is_flushed<S: Alter, H: Shelf>(
+fn is_flushed<S: Alter + Drop, H: Shelf + Drop>(
     rt: &(impl Abort + AllocGlobal),
-    bench: &mut Bench<S, H>,
+    store: Connection<S>,
+    shelf: H,
     lines: &[u8],
 ) {
+    let mut bench = open(rt, store, shelf);
     let flushed = Cell::new(0usize);
     let mut output = Counted {
         written: 0,
@@ -75,21 +76,11 @@ fn is_flushed<S: Alter, H: Shelf>(
         seen: Vec::new(rt.alloc()),
     };
     let mut reader = BufReader::new(rt.alloc(), input).expect(rt, "no memory");
-    let end = try_batch(rt, &mut reader, &mut output, bench);
+    let end = try_batch(rt, &mut reader, &mut output, &mut bench);
     must(rt, end == Ok(REFUSED), "another end");
     let seen = &reader.get_ref().seen;
     must(rt, seen.as_slice() == FLUSHED.as_slice(), "not flushed");
     must(rt, flushed.get() == 54, "another length");
-}
-
-fn opens_and_is_flushed<S: Alter + Drop, H: Shelf + Drop>(
-    rt: &(impl Abort + AllocGlobal),
-    store: Connection<S>,
-    shelf: H,
-    lines: &[u8],
-) {
-    let mut bench = open(rt, store, shelf);
-    is_flushed(rt, &mut bench, lines);
 }
 
 fn seven_lines(rt: &(impl Abort + AllocGlobal)) -> Vec<u8> {
@@ -112,5 +103,5 @@ fn seven_lines(rt: &(impl Abort + AllocGlobal)) -> Vec<u8> {
 #[test]
 fn an_answer_is_flushed_before_the_next_line_is_read(rt: HostRuntime) {
     let lines = seven_lines(&rt);
-    opens_and_is_flushed(&rt, in_memory(&rt), images(&rt), lines.as_slice());
+    is_flushed(&rt, in_memory(&rt), serving(images(&rt)), lines.as_slice());
 }

@@ -1,7 +1,7 @@
-//! As many mirrors as there may be, each with as many components as it may have: what is refused
-//! then, and which records one command changes.
+//! As many mirrors as there may be, each with as many components as it may have: which records one
+//! command changes.
 
-use super::{DONE, REFUSED, answers, got, in_memory, must, open, tell};
+use super::{DONE, answers, got, in_memory, must, open, serving};
 use gm_bench::Bench;
 use gm_metadata::Label;
 use gm_shelf::{MemShelf, Shelf};
@@ -14,10 +14,10 @@ use std::process::Abort;
 // 64 mirrors of 16 components each.
 const COMPONENTS: u64 = 1024;
 
-// An image of two sectors for each component, and one more.
+// An image of two sectors for each component.
 fn many_images(rt: &(impl Abort + AllocGlobal)) -> MemShelf {
     let mut shelf = MemShelf::new(rt.alloc());
-    for number in 0..=COMPONENTS {
+    for number in 0..COMPONENTS {
         let name = format!(in rt.alloc(); "p{number}").expect(rt, "no memory");
         let sectors = [[(number % 251) as u8; 512], [0; 512]];
         let sectors = Vec::from_slice(rt.alloc(), &sectors).expect(rt, "no memory");
@@ -88,43 +88,22 @@ fn differ_in_one(rt: &impl Abort, before: &State, after: &State) {
 }
 
 // One component is filled: its record says so, and no other changes.
-fn changes_one_record<S: Alter, H: Shelf>(
-    rt: &(impl Abort + AllocGlobal),
-    bench: &mut Bench<S, H>,
-) {
-    let before = view(rt, bench);
-    let line = b"k1025 advance m5 p82".as_slice();
-    answers(rt, bench, line, "k1025 ok 1025 copied 1 of 1\n", DONE);
-    differ_in_one(rt, &before, &view(rt, bench));
-}
-
-// What one mirror or one component more is answered.
-const MORE: &str = "k1026 label --mid 64 --did 0 m64 p1024
-k1026 insert --did 16 m63 p1024
-";
-
-const MORE_TOLD: &str = "k1026 refused 15
-k1026 refused 14
-";
-
-fn fills<S: Alter, H: Shelf>(rt: &(impl Abort + AllocGlobal), bench: &mut Bench<S, H>) {
-    let told = tell(rt, bench, lines(rt).as_bytes());
-    let is_told = told.text.as_slice() == answered(rt).as_bytes();
-    must(rt, is_told, "another text");
-}
-
 fn are_full<S: Alter + Drop, H: Shelf + Drop>(
     rt: &(impl Abort + AllocGlobal),
     store: Connection<S>,
     shelf: H,
 ) {
     let mut bench = open(rt, store, shelf);
-    fills(rt, &mut bench);
-    changes_one_record(rt, &mut bench);
-    answers(rt, &mut bench, MORE.as_bytes(), MORE_TOLD, REFUSED);
+    let (lines, told) = (lines(rt), answered(rt));
+    answers(rt, &mut bench, lines.as_bytes(), told.as_str(), DONE);
+    let before = view(rt, &mut bench);
+    let line = b"k1025 advance m5 p82".as_slice();
+    let filled = "k1025 ok 1025 copied 1 of 1\n";
+    answers(rt, &mut bench, line, filled, DONE);
+    differ_in_one(rt, &before, &view(rt, &mut bench));
 }
 
 #[test]
 fn full_mirrors_are_kept_record_by_record(rt: HostRuntime) {
-    are_full(&rt, in_memory(&rt), many_images(&rt));
+    are_full(&rt, in_memory(&rt), serving(many_images(&rt)));
 }

@@ -1,9 +1,9 @@
 //! Inputs that come slowly, and inputs that fail.
 
 use super::{
-    DONE, INSERT, LABEL, REMOVE, answers, images, in_memory, must, of_letters, open, try_batch,
+    DONE, INSERT, LABEL, REMOVE, answers, images, in_memory, must, of_letters, open, serving,
+    try_batch,
 };
-use gm_bench::Bench;
 use gm_front::{BatchEnd, FrontFault};
 use gm_lines::MAX_LINE;
 use gm_shelf::Shelf;
@@ -67,23 +67,7 @@ fn three_lines(rt: &(impl Abort + AllocGlobal)) -> String {
 }
 
 // A batch of such an input, and one of the three lines. Each answer to the first has eight bytes.
-fn takes<S: Alter, H: Shelf>(
-    rt: &(impl Abort + AllocGlobal),
-    bench: &mut Bench<S, H>,
-    input: Slow<'_>,
-    expected: Expected,
-) {
-    let mut reader = BufReader::new(rt.alloc(), input).expect(rt, "no memory");
-    let mut text = Vec::new(rt.alloc());
-    let ended = try_batch(rt, &mut reader, &mut text, bench);
-    let told = TOLD.as_bytes().get(..expected.answered.saturating_mul(8));
-    must(rt, Some(text.as_slice()) == told, "another text");
-    must(rt, ended == expected.end, "another end");
-    let answered = told_after(expected.repeated);
-    answers(rt, bench, three_lines(rt).as_bytes(), answered, DONE);
-}
-
-fn opens_and_takes<S: Alter + Drop, H: Shelf + Drop>(
+fn takes<S: Alter + Drop, H: Shelf + Drop>(
     rt: &(impl Abort + AllocGlobal),
     store: Connection<S>,
     shelf: H,
@@ -91,12 +75,19 @@ fn opens_and_takes<S: Alter + Drop, H: Shelf + Drop>(
     expected: Expected,
 ) {
     let mut bench = open(rt, store, shelf);
-    takes(rt, &mut bench, input, expected);
+    let mut reader = BufReader::new(rt.alloc(), input).expect(rt, "no memory");
+    let mut text = Vec::new(rt.alloc());
+    let ended = try_batch(rt, &mut reader, &mut text, &mut bench);
+    let told = TOLD.as_bytes().get(..expected.answered.saturating_mul(8));
+    must(rt, Some(text.as_slice()) == told, "another text");
+    must(rt, ended == expected.end, "another end");
+    let answered = told_after(expected.repeated);
+    answers(rt, &mut bench, three_lines(rt).as_bytes(), answered, DONE);
 }
 
 // The same over memory.
 fn are_taken(rt: &(impl Abort + AllocGlobal), input: Slow<'_>, expected: Expected) {
-    opens_and_takes(rt, in_memory(rt), images(rt), input, expected);
+    takes(rt, in_memory(rt), serving(images(rt)), input, expected);
 }
 
 const TOLD: &str = "k1 ok 1\nk2 ok 2\nk3 ok 3\n";

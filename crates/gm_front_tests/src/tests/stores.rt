@@ -2,7 +2,7 @@
 //! store stops at each of its calls in turn.
 
 use super::faults::{goes_on, plays};
-use super::{DONE, LABEL, REFUSED, answers, got, images, must, tell, try_open};
+use super::{DONE, LABEL, REFUSED, answers, got, images, must, serving, tell, try_open};
 use gm_bench::{Bench, BenchFault};
 use gm_front::BatchEnd;
 use gm_shelf::{MemShelf, Shelf};
@@ -144,8 +144,9 @@ fn run(rt: &(impl Abort + AllocGlobal), from: &Media, calls: Calls, job: Job) ->
         .crash_image(&AS_IT_STANDS)
         .expect(rt, "no memory");
     let files = got(rt, from.store.files(rt.alloc(), calls));
-    let Left { done, files, shelf } = perform_on_files(rt, files, shelf, job);
+    let Left { done, files, shelf } = perform_on_files(rt, files, serving(shelf), job);
     let store = got(rt, StoreBytes::of(rt.alloc(), &files));
+    let shelf = shelf.into_inner();
     (done, Media { store, shelf })
 }
 

@@ -3,7 +3,7 @@
 
 mod rows;
 
-use super::{Told, got, in_memory, must, open, tell, try_status};
+use super::{Told, got, in_memory, must, open, serving, tell, try_status};
 use gm_bench::Bench;
 use gm_front::BatchEnd;
 use gm_looks::taste_shelf;
@@ -341,7 +341,13 @@ fn push_found<S: Alter + Drop, H: Shelf + Drop>(
 
 fn must_find(rt: &(impl Abort + AllocGlobal), row: &Row) {
     let mut text = String::new(rt.alloc());
-    push_found(rt, &mut text, in_memory(rt), shelf_of(rt, row.images), row);
+    push_found(
+        rt,
+        &mut text,
+        in_memory(rt),
+        serving(shelf_of(rt, row.images)),
+        row,
+    );
     must(rt, text.as_str().trim() == row.found, row.shows);
 }
 

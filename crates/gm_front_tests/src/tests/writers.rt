@@ -1,7 +1,6 @@
 //! Outputs that take little at a time, and outputs that fail.
 
-use super::{DONE, INSERT, LABEL, answers, images, in_memory, must, open, try_batch};
-use gm_bench::Bench;
+use super::{DONE, INSERT, LABEL, answers, images, in_memory, must, open, serving, try_batch};
 use gm_front::{BatchEnd, FrontFault};
 use gm_shelf::Shelf;
 use sqlite::{Alter, Connection};
@@ -13,7 +12,7 @@ use std::process::Abort;
 // each write. What is full fails, or takes nothing.
 #[derive(Drop)]
 pub(super) struct Narrow {
-    pub(super) text: Vec<u8>,
+    text: Vec<u8>,
     at_once: usize,
     pub(super) room: usize,
     flushes: usize,
@@ -63,14 +62,6 @@ pub(super) fn wide(alloc: Global) -> Narrow {
     }
 }
 
-// Takes so many bytes, and then fails.
-pub(super) fn with_room(alloc: Global, room: usize) -> Narrow {
-    Narrow {
-        room,
-        ..wide(alloc)
-    }
-}
-
 const TOLD: &str = "k1 ok 1\nk2 ok 2\n";
 
 const LAST_TOLD_AGAIN: &str = "k1 repeated 1\nk2 ok 2\n";
@@ -96,24 +87,7 @@ fn left_and_told_again(fails_at_first: bool) -> (&'static str, &'static str) {
     }
 }
 
-fn tells<S: Alter, H: Shelf>(
-    rt: &(impl Abort + AllocGlobal),
-    bench: &mut Bench<S, H>,
-    output: &mut Narrow,
-    expected: Expected,
-) {
-    let lines = format!(in rt.alloc(); "{LABEL}{INSERT}").expect(rt, "no memory");
-    let mut input = lines.as_bytes();
-    let ended = try_batch(rt, &mut input, output, bench);
-    let told = TOLD.as_bytes().get(..expected.told);
-    must(rt, Some(output.text.as_slice()) == told, "another text");
-    let (left, again) = left_and_told_again(expected.fails_at_first);
-    let is_over = ended == expected.end && input == left.as_bytes();
-    must(rt, is_over, "another end or rest");
-    answers(rt, bench, lines.as_bytes(), again, DONE);
-}
-
-fn opens_and_tells<S: Alter + Drop, H: Shelf + Drop>(
+fn tells<S: Alter + Drop, H: Shelf + Drop>(
     rt: &(impl Abort + AllocGlobal),
     store: Connection<S>,
     shelf: H,
@@ -121,12 +95,26 @@ fn opens_and_tells<S: Alter + Drop, H: Shelf + Drop>(
     expected: Expected,
 ) {
     let mut bench = open(rt, store, shelf);
-    tells(rt, &mut bench, output, expected);
+    let lines = format!(in rt.alloc(); "{LABEL}{INSERT}").expect(rt, "no memory");
+    let mut input = lines.as_bytes();
+    let ended = try_batch(rt, &mut input, output, &mut bench);
+    let told = TOLD.as_bytes().get(..expected.told);
+    must(rt, Some(output.text.as_slice()) == told, "another text");
+    let (left, again) = left_and_told_again(expected.fails_at_first);
+    let is_over = ended == expected.end && input == left.as_bytes();
+    must(rt, is_over, "another end or rest");
+    answers(rt, &mut bench, lines.as_bytes(), again, DONE);
 }
 
 // The same over memory.
 fn are_told(rt: &(impl Abort + AllocGlobal), mut output: Narrow, expected: Expected) {
-    opens_and_tells(rt, in_memory(rt), images(rt), &mut output, expected);
+    tells(
+        rt,
+        in_memory(rt),
+        serving(images(rt)),
+        &mut output,
+        expected,
+    );
 }
 
 #[test]
