@@ -15,7 +15,7 @@ use gm_front::{BatchEnd, FrontFault, batch};
 use gm_shelf::{FaultShelf, MemShelf, Shelf};
 use gm_test_media::{ALL, StoreBytes, shelf};
 use gm_words::status_text;
-use sqlite::{Alter, Connection, FileStore, Options};
+use sqlite::{Alter, Connection, FileStore, Files, Options};
 use sqlite_disk::{Disk, Fuse, Memory};
 use std::io::{BufRead, Write};
 use std::process::Abort;
@@ -50,15 +50,23 @@ fn got<T>(rt: &impl Abort, outcome: Result<T, Fail>) -> T {
     }
 }
 
-// A new store of two files in memory, and below a shelf that may stop: each bench is over such, so
-// that a bench over one kind of store and shelf is all that LLVM compiles.
-fn in_memory(rt: &(impl Abort + AllocGlobal)) -> Connection<FileStore<Fuse<Memory>>> {
-    let files = got(rt, StoreBytes::new(rt.alloc()).files(rt.alloc(), ALL));
+// A store of two files that serve.
+fn store_over<D: Disk + Drop>(
+    rt: &(impl Abort + AllocGlobal),
+    files: Files<D>,
+) -> Connection<FileStore<D>> {
     assert!(rt; files.may_be_used());
     match Connection::open_files(rt.alloc(), files, Options::new(1)) {
         Ok(store) => store,
         Err(_) => panic!(rt; "no store"),
     }
+}
+
+// A new store, in memory. Each bench is over such a store and a shelf that may stop, so that a
+// bench over one kind of both is all that LLVM compiles.
+fn in_memory(rt: &(impl Abort + AllocGlobal)) -> Connection<FileStore<Fuse<Memory>>> {
+    let files = StoreBytes::new(rt.alloc()).files(rt.alloc(), ALL);
+    store_over(rt, got(rt, files))
 }
 
 // a.img, b.img and c.img.

@@ -107,7 +107,7 @@ struct Left<D: Disk, H> {
     shelf: H,
 }
 
-// No other function owns a store of two files.
+// The same over a store of two files, which may not open or close.
 fn perform_on_files<D: Disk + Drop, H: Shelf + Drop>(
     rt: &(impl Abort + AllocGlobal),
     files: Files<D>,
