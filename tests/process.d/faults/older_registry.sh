@@ -54,7 +54,8 @@ if command -v sqlite3 >/dev/null; then
     # Other numbers, and tables that don't go with their number, are left as they are.
     for change in 'UPDATE about SET schema_no = 2' 'UPDATE about SET schema_no = 3' 'UPDATE about SET schema_no = 0' \
         'CREATE TABLE patches(one INTEGER PRIMARY KEY CHECK (one = 1), bytes BLOB NOT NULL) STRICT' \
-        'CREATE TABLE patches(one INTEGER PRIMARY KEY, bytes BLOB)' 'DELETE FROM about'; do
+        'CREATE TABLE patches(one INTEGER PRIMARY KEY, bytes BLOB)' 'DELETE FROM about' 'DROP TABLE intents' \
+        'CREATE TABLE other(a INTEGER) STRICT'; do
         older "other-$((other = ${other:-0} + 1))"
         sqlite3 "$registry" "$change"
         cp "$registry" "$work/changed"

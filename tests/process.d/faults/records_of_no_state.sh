@@ -1,5 +1,6 @@
-# Records that are those of a state, and records that aren't.
+# Records that are those of a state, and rows and tables that aren't, which are reported and left.
 . "$helpers/records.sh"
+. "$helpers/python.sh"
 
 # ---- records that are those of a state, and records that break a rule of it
 
@@ -48,7 +49,7 @@ expect_left() {
             fail "$1 in the $place is left" "$other"
         elif ! other=$(head -c "$logged" "$registry-wal" | cmp - "$work/changed/registry-wal" 2>&1); then
             fail "$1 in the $place leaves the log" "$other"
-        elif [ "$(wc -c <"$registry-wal")" -ge $((logged + 4096)) ]; then
+        elif [ "$(wc -c <"$registry-wal")" -ge $((logged + 2048)) ]; then
             fail "$1 in the $place leaves the log" 'it has a page more'
         else
             pass "$1 in the $place is left"
@@ -109,5 +110,15 @@ if command -v sqlite3 >/dev/null; then
         "PRAGMA foreign_keys = OFF; UPDATE components SET mirror = 'gm9' WHERE prov = 'b.img'"
 else
     skip 'records that break a rule' 'there is no sqlite3'
+fi
+
+# ---- one edit at a time, of each column and table
+
+if has_python 'registries that are edited'; then
+    if python3 -c 'import sqlite3' 2>/dev/null; then
+        run_script faults/records_of_no_state.py "$gmbench" "$work" "$top/examples/first-schema.sqlite"
+    else
+        skip 'registries that are edited' 'there is no SQLite for python3 here'
+    fi
 fi
 finish
