@@ -1,27 +1,21 @@
-//! Each statement once over memory, with values worked out by hand, and stores that hold something
-//! else.
+//! Each statement once over memory, with values worked out by hand.
 
+mod calls;
 mod counting;
 mod first;
-mod loading;
 mod parts;
 mod patched;
-mod records;
-mod replies;
+mod reading;
+mod rows;
 mod stops;
 mod stored;
-mod untouched;
 
 use gm_changes::{Change, decide};
 use gm_commands::{BalanceWord, Command, NewComponent, NewMirror, Slice};
 use gm_metadata::{Balance, Label, MirrorFlags};
 use gm_refusals::{Fact, Facts};
-use gm_registry::Registry;
 use gm_rows::StoreFault;
-use gm_state::{Component, Disk, Mirror, Reply, State};
-use gm_test_media::memory;
-use sqlite::{Alter, Connection, Error, MemStore};
-use std::alloc::Global;
+use gm_state::{Component, Disk, Mirror, State};
 use std::process::Abort;
 use std::test::Fail;
 
@@ -29,12 +23,6 @@ const NO_FLAGS: MirrorFlags = MirrorFlags {
     no_autosync: false,
     no_failsync: false,
 };
-
-// One of the six texts alone.
-const MIRRORS: &str =
-    "CREATE TABLE mirrors(name TEXT PRIMARY KEY NOT NULL, mid INTEGER NOT NULL UNIQUE,
-  total INTEGER NOT NULL, genid INTEGER NOT NULL, syncid INTEGER NOT NULL, slice INTEGER NOT NULL,
-  balance INTEGER NOT NULL, mediasize INTEGER NOT NULL, mflags INTEGER NOT NULL) STRICT";
 
 // What fails ends a test at once, here and below: so a proof has no way out of each call to go
 // through, on which all that is held would be let go.
@@ -158,181 +146,6 @@ fn destroys(rt: &(impl Abort + AllocGlobal)) -> Change {
         &[bare(rt, "a.img"), bare(rt, "b.img")],
         &command,
     )
-}
-
-// These have no clause, so that the proof of a test doesn't carry the state of each call.
-fn open<S: Alter + Drop>(store: Connection<S>) -> Result<Registry<S>, StoreFault> {
-    if !store.is_autocommit() {
-        return Err(StoreFault::Store);
-    }
-    match Registry::open(store) {
-        Ok(registry) => Ok(registry),
-        Err(fault) => Err(fault.fault),
-    }
-}
-
-fn loads<S: Alter>(alloc: Global, registry: &mut Registry<S>) -> bool {
-    registry.load(alloc).is_ok()
-}
-
-fn accept<S: Alter>(
-    registry: &mut Registry<S>,
-    change: &Change,
-    key: &str,
-    words: &str,
-) -> Result<u64, StoreFault> {
-    registry.accept(change, key, words)
-}
-
-fn accepted<S: Alter>(registry: &mut Registry<S>) -> Result<u64, StoreFault> {
-    registry.accepted()
-}
-
-fn settle<S: Alter>(registry: &mut Registry<S>) -> Result<(), StoreFault> {
-    registry.settle()
-}
-
-fn is_free<S: Alter>(registry: &mut Registry<S>, key: &str) -> Result<bool, StoreFault> {
-    Ok(registry.reply_of(key)?.is_none())
-}
-
-fn number<S: Alter>(store: &mut Connection<S>, sql: &str) -> Result<i64, Error> {
-    store.query_row(sql, &[])?.get(0)
-}
-
-fn run<S: Alter>(store: &mut Connection<S>, sql: &str) -> Result<usize, Error> {
-    store.execute(sql, &[])
-}
-
-fn must_count<S: Alter>(rt: &impl Abort, store: &mut Connection<S>, rows: i64, sql: &str) {
-    must(rt, number(store, sql).ok() == Some(rows), sql);
-}
-
-// Accepts a change, and opens a registry, in a test that needs this to succeed.
-fn accepts<S: Alter>(
-    rt: &impl Abort,
-    registry: &mut Registry<S>,
-    change: &Change,
-    key: &str,
-    words: &str,
-) {
-    must(rt, accept(registry, change, key, words).is_ok(), words);
-}
-
-fn settles<S: Alter>(rt: &impl Abort, registry: &mut Registry<S>) {
-    must(rt, settle(registry).is_ok(), "not settled");
-}
-
-fn opened<S: Alter + Drop>(rt: &impl Abort, store: Connection<S>) -> Registry<S> {
-    open(store).expect(rt, "not opened")
-}
-
-fn in_memory(rt: &(impl Abort + AllocGlobal)) -> Connection<MemStore> {
-    got(rt, memory(rt.alloc()))
-}
-
-// gm0 with a.img and b.img, by two commands.
-fn filled<S: Alter + Drop>(rt: &(impl Abort + AllocGlobal), store: Connection<S>) -> Registry<S> {
-    let mut registry = opened(rt, store);
-    accepts(rt, &mut registry, &labels(rt), "k1", "label gm0 a.img");
-    settles(rt, &mut registry);
-    accepts(rt, &mut registry, &inserts(rt), "k2", "insert gm0 b.img");
-    registry
-}
-
-fn is_empty_at_first<S: Alter + Drop>(rt: &impl Abort, store: Connection<S>) {
-    let mut registry = opened(rt, store);
-    must(rt, accepted(&mut registry) == Ok(0), "commands");
-    must(rt, is_free(&mut registry, "k1") == Ok(true), "a key");
-    let mut store = registry.close();
-    for (rows, sql) in [
-        (
-            1,
-            "SELECT count(*) FROM about WHERE one = 1 AND schema_no = 2",
-        ),
-        (0, "SELECT count(*) FROM mirrors"),
-        (0, "SELECT count(*) FROM patches"),
-    ] {
-        must_count(rt, &mut store, rows, sql);
-    }
-}
-
-#[test]
-fn an_empty_store_is_a_registry_without_records(rt: HostRuntime) {
-    is_empty_at_first(&rt, in_memory(&rt));
-}
-
-fn hold_bytes<S: Alter + Drop>(rt: &(impl Abort + AllocGlobal), store: Connection<S>) {
-    let mut store = filled(rt, store).close();
-    for (rows, sql) in [
-        (
-            1,
-            "SELECT count(*) FROM mirrors WHERE name = 'gm0' AND mid = 7 AND total = 2 AND genid = 0 AND syncid = 1 AND slice = 4096 AND balance = 2 AND mediasize = 1536 AND mflags = 0",
-        ),
-        (
-            1,
-            "SELECT count(*) FROM components WHERE prov = 'a.img' AND mirror = 'gm0' AND did = 1 AND syncid = 1 AND priority = 0 AND sync_offset = 0 AND dflags = 0 AND hard = 1 AND provsize = 2048",
-        ),
-        (
-            1,
-            "SELECT count(*) FROM components WHERE prov = 'b.img' AND did = 2 AND priority = 9 AND dflags = 2 AND hard = 0",
-        ),
-        (
-            2,
-            "SELECT count(*) FROM commands WHERE copied = 0 AND of_total = 0",
-        ),
-    ] {
-        must_count(rt, &mut store, rows, sql);
-    }
-}
-
-#[test]
-fn rows_hold_bytes_codes_and_flags(rt: HostRuntime) {
-    hold_bytes(&rt, in_memory(&rt));
-}
-
-// It isn't opened, since it is unreadable.
-fn must_be_unread<S: Alter + Drop>(rt: &impl Abort, store: Connection<S>, sql: &str) {
-    must(rt, open(store).err() == Some(StoreFault::Unreadable), sql);
-}
-
-fn runs<S: Alter>(rt: &impl Abort, store: &mut Connection<S>, sql: &str) {
-    must(rt, run(store, sql).is_ok(), sql);
-}
-
-// What an opening says of a registry after a statement of somebody else's.
-fn is_unread_after<S: Alter + Drop>(
-    rt: &(impl Abort + AllocGlobal),
-    store: Connection<S>,
-    sql: &str,
-) {
-    let mut store = filled(rt, store).close();
-    runs(rt, &mut store, sql);
-    must_be_unread(rt, store, sql);
-}
-
-// What an opening says of a store that this statement made.
-fn is_unread_over<S: Alter + Drop>(rt: &impl Abort, mut store: Connection<S>, sql: &str) {
-    runs(rt, &mut store, sql);
-    must_be_unread(rt, store, sql);
-}
-
-#[test]
-fn other_stores_are_unreadable(rt: HostRuntime) {
-    for sql in [
-        "UPDATE about SET schema_no = 3",
-        "UPDATE about SET schema_no = 1",
-        "DELETE FROM about",
-        "DROP TABLE intents",
-        "DROP TABLE patches",
-        "CREATE TABLE other(a INTEGER) STRICT",
-        "CREATE INDEX by_total ON mirrors(total)",
-    ] {
-        is_unread_after(&rt, in_memory(&rt), sql);
-    }
-    for sql in ["CREATE TABLE note(a INTEGER) STRICT", MIRRORS] {
-        is_unread_over(&rt, in_memory(&rt), sql);
-    }
 }
 
 #[test]

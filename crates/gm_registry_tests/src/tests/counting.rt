@@ -1,6 +1,7 @@
 //! How many rows of tables one accepted command writes, counted below the connection.
 
-use super::{accepts, destroys, inserts, labels, labels_on, must, opened, settles};
+use super::calls::{accepts, opened, settles};
+use super::{destroys, inserts, labels, labels_on, must};
 use gm_changes::Change;
 use sqlite::{Connection, MemStore};
 use sqlite_trees::error::StoreError;
@@ -13,7 +14,7 @@ use std::process::Abort;
 // A store, and how many times a row was put into one of its tables or deleted from one. The entries
 // of its indexes aren't counted.
 #[derive(Drop)]
-struct Counted<S: Alter> {
+pub(super) struct Counted<S: Alter> {
     store: S,
     rows: u64,
 }
@@ -170,7 +171,8 @@ const WORDS: [&str; 4] = [
     "destroy gm0",
 ];
 
-fn nothing(rt: &(impl Abort + AllocGlobal)) -> Connection<Counted<MemStore>> {
+/// A store in memory that holds nothing. Each test that is over a store in memory is over this one.
+pub(super) fn nothing(rt: &(impl Abort + AllocGlobal)) -> Connection<Counted<MemStore>> {
     let store = Counted {
         store: MemStore::new(rt.alloc(), &[]).expect(rt, "no memory"),
         rows: 0,

@@ -1,14 +1,14 @@
-//! A registry of the first schema, made by the statements that made it then, is carried over.
+//! A registry of the first schema, made by the statements that made it then, is carried over by
+//! openings that stop.
 
-use super::loading::{ROWS, edits, says_the_rows};
-use super::stops::{edited, is_carried_at};
-use super::{in_memory, must, must_be_unread, must_count, opened, runs};
-use gm_test_media::StoreBytes;
-use sqlite::{Alter, Connection};
+use super::must;
+use super::reading::ROWS;
+use super::stops::{Found, Job, edited, look_at, serve};
+use gm_test_media::{ALL, Calls, StoreBytes};
 use std::process::Abort;
 
 // Its five tables, and its number.
-pub(super) const FIRST: &str =
+const FIRST: &str =
     "CREATE TABLE about(one INTEGER PRIMARY KEY CHECK (one = 1), schema_no INTEGER NOT NULL) STRICT;
 CREATE TABLE mirrors(name TEXT PRIMARY KEY NOT NULL, mid INTEGER NOT NULL UNIQUE,
   total INTEGER NOT NULL, genid INTEGER NOT NULL, syncid INTEGER NOT NULL, slice INTEGER NOT NULL,
@@ -22,54 +22,34 @@ CREATE TABLE commands(call_key TEXT PRIMARY KEY NOT NULL, seq INTEGER NOT NULL U
   words TEXT NOT NULL, copied INTEGER NOT NULL, of_total INTEGER NOT NULL) STRICT;
 INSERT INTO about (one, schema_no) VALUES (1, 1)";
 
-// The same with rows, of which three are pending intents.
-fn first<S: Alter>(rt: &impl Abort, mut store: Connection<S>) -> Connection<S> {
-    edits(rt, &mut store, FIRST);
-    edits(rt, &mut store, ROWS);
-    store
+// What is found of the rows in files that may have been carried over.
+const ROWS_FOUND: Found = Found {
+    commands: 3,
+    components: 7,
+    intents: 3,
+};
+
+// The rows are there, once nothing stops.
+fn must_have_rows(rt: &(impl Abort + AllocGlobal), from: &StoreBytes) {
+    must(rt, look_at(rt, from) == ROWS_FOUND, "other rows");
 }
 
-fn reads_the_same<S: Alter + Drop>(rt: &(impl Abort + AllocGlobal), store: Connection<S>) {
-    let mut registry = opened(rt, first(rt, store));
-    says_the_rows(rt, &mut registry);
-    let mut store = registry.close();
-    for (rows, sql) in [
-        (
-            1,
-            "SELECT count(*) FROM about WHERE one = 1 AND schema_no = 2",
-        ),
-        (0, "SELECT count(*) FROM patches"),
-        (3, "SELECT count(*) FROM intents"),
-        (3, "SELECT count(*) FROM commands"),
-    ] {
-        must_count(rt, &mut store, rows, sql);
+// Two openings that stop in turn, and whether the first did; the rows are there after each, as the
+// files read and as a crash leaves them. One that stops finds them, if any.
+fn is_carried_through(rt: &(impl Abort + AllocGlobal), from: &StoreBytes, calls: Calls) -> bool {
+    let left = serve(rt, from, calls, &Job::Look);
+    must_have_rows(rt, &left.read);
+    must_have_rows(rt, &left.crashed);
+    let again = serve(rt, &left.crashed, calls, &Job::Look);
+    must_have_rows(rt, &again.read);
+    for found in [left.told.found, again.told.found] {
+        must(
+            rt,
+            found.is_none() || found == Some(ROWS_FOUND),
+            "other rows",
+        );
     }
-    says_the_rows(rt, &mut opened(rt, store));
-}
-
-#[test]
-fn a_first_registry_is_carried_over(rt: HostRuntime) {
-    reads_the_same(&rt, in_memory(&rt));
-}
-
-fn is_unread<S: Alter + Drop>(rt: &impl Abort, store: Connection<S>, sql: &str) {
-    let mut store = first(rt, store);
-    runs(rt, &mut store, sql);
-    must_be_unread(rt, store, sql);
-}
-
-#[test]
-fn other_first_registries_are_unreadable(rt: HostRuntime) {
-    for sql in [
-        "UPDATE about SET schema_no = 2",
-        "UPDATE about SET schema_no = 0",
-        "DELETE FROM about",
-        "DROP TABLE intents",
-        "CREATE TABLE patches(one INTEGER PRIMARY KEY CHECK (one = 1), bytes BLOB NOT NULL) STRICT",
-        "CREATE TABLE other(a INTEGER) STRICT",
-    ] {
-        is_unread(&rt, in_memory(&rt), sql);
-    }
+    left.stopped
 }
 
 // A run is over long before it makes so many calls of one file.
@@ -81,10 +61,11 @@ const MANY: u64 = 200;
 fn a_stop_while_a_registry_is_carried_over(rt: HostRuntime) {
     let empty = edited(&rt, &StoreBytes::new(rt.alloc()), FIRST);
     let from = edited(&rt, &empty, ROWS);
-    let mut ended = (false, false);
+    let mut log_ended = false;
+    let mut db_ended = false;
     for calls in 0..MANY {
-        let stopped = is_carried_at(&rt, &from, calls);
-        ended = (ended.0 || !stopped.0, ended.1 || !stopped.1);
+        log_ended = log_ended || !is_carried_through(&rt, &from, Calls { log: calls, ..ALL });
+        db_ended = db_ended || !is_carried_through(&rt, &from, Calls { db: calls, ..ALL });
     }
-    must(&rt, ended.0 && ended.1, "no opening ended");
+    must(&rt, log_ended && db_ended, "no opening ended");
 }

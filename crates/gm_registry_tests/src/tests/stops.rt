@@ -1,85 +1,70 @@
 //! A store of two files, of which one stops at each of its calls in turn, and what is found when it
 //! is opened again.
 
-use super::{accept, accepted, got, inserts, labels, loads, must, number, settle};
+use super::calls::{accept, accepted, load, number, open, settle};
+use super::stored::stop_within_remove;
+use super::{got, inserts, labels, must};
 use gm_changes::Change;
 use gm_registry::Registry;
 use gm_test_media::{ALL, Calls, StoreBytes};
 use sqlite::{Alter, Connection, Files, Options};
-use sqlite_disk::{Crash, Disk, Fuse, Memory};
+use sqlite_disk::{Crash, Disk};
 use std::alloc::Global;
 use std::process::Abort;
 
 // A run is over long before it makes so many calls of one file.
 const MANY: u64 = 400;
 
-// What was acknowledged before the stop.
-#[derive(Clone, Copy)]
-pub(super) struct Reached {
-    pub(super) loaded: bool,
-    accepted: bool,
-    settled: bool,
-}
-
-const NOTHING: Reached = Reached {
-    loaded: false,
-    accepted: false,
-    settled: false,
-};
-
 // What is asked of a store that is opened over files.
 #[derive(Clone, Copy)]
-enum Job<'a> {
+pub(super) enum Job<'a> {
     // To load it, accept the change and settle it, as far as the store serves and says a state.
     Run(&'a Change, &'a str),
     // To run somebody else's statements.
     Edit(&'a str),
     // To tell what it holds.
     Look,
+    // To make the registry that is stored as pending.
+    LeavePending,
 }
 
 // How many rows are found.
 #[derive(Clone, Copy, PartialEq, Eq)]
-struct Found {
-    commands: u64,
-    components: i64,
-    intents: i64,
+pub(super) struct Found {
+    pub(super) commands: u64,
+    pub(super) components: i64,
+    pub(super) intents: i64,
 }
 
-// What was done of a job.
+// What was done of a job: what was acknowledged of a run before the stop, whether the statements
+// were run, and what a look found.
 #[derive(Clone, Copy)]
-struct Told {
-    reached: Reached,
+pub(super) struct Told {
+    accepted: bool,
+    settled: bool,
     edited: bool,
-    found: Option<Found>,
+    pub(super) found: Option<Found>,
 }
 
-const NOTHING_TOLD: Told = Told {
-    reached: NOTHING,
+const NOTHING: Told = Told {
+    accepted: false,
+    settled: false,
     edited: false,
     found: None,
 };
 
-fn run_on<S: Alter + Drop>(
-    alloc: Global,
-    registry: &mut Registry<S>,
-    change: &Change,
-    key: &str,
-) -> Told {
-    let loaded = loads(alloc, registry);
+fn run_on<S: Alter>(alloc: Global, registry: &mut Registry<S>, change: &Change, key: &str) -> Told {
+    let loaded = load(alloc, registry).is_ok();
     let accepted = loaded && accept(registry, change, key, "words").is_ok();
     let settled = accepted && settle(registry).is_ok();
     Told {
-        reached: Reached {
-            loaded,
-            accepted,
-            settled,
-        },
-        ..NOTHING_TOLD
+        accepted,
+        settled,
+        ..NOTHING
     }
 }
 
-fn rows_in<S: Alter>(commands: u64, store: &mut Connection<S>) -> Option<Found> {
+fn rows_in<S: Alter>(store: &mut Connection<S>, commands: u64) -> Option<Found> {
     let components = number(store, "SELECT count(*) FROM components").ok()?;
     let intents = number(store, "SELECT count(*) FROM intents").ok()?;
     Some(Found {
@@ -89,145 +74,134 @@ fn rows_in<S: Alter>(commands: u64, store: &mut Connection<S>) -> Option<Found> 
     })
 }
 
-// Does a job that asks for the registry.
-fn serve<S: Alter + Drop>(
-    alloc: Global,
-    mut registry: Registry<S>,
-    job: &Job<'_>,
-) -> (Told, Connection<S>) {
-    match job {
-        Job::Run(change, key) => {
-            let told = run_on(alloc, &mut registry, change, key);
-            (told, registry.close())
-        }
-        Job::Edit(_) => (NOTHING_TOLD, registry.close()),
-        Job::Look => {
-            let count = accepted(&mut registry).ok();
-            let mut store = registry.close();
-            let found = match count {
-                Some(commands) => rows_in(commands, &mut store),
-                None => None,
-            };
-            let told = Told {
-                found,
-                ..NOTHING_TOLD
-            };
-            (told, store)
-        }
-    }
+// Tells what a registry holds.
+fn look<S: Alter + Drop>(mut registry: Registry<S>) -> (Told, Connection<S>) {
+    let count = accepted(&mut registry).ok();
+    let mut store = registry.close();
+    let found = match count {
+        Some(commands) => rows_in(&mut store, commands),
+        None => None,
+    };
+    let told = Told { found, ..NOTHING };
+    (told, store)
 }
 
-// Opens the registry for a job, unless it is somebody else's.
+// Opens the registry for a job, unless that is somebody else's.
 fn perform<S: Alter + Drop>(
-    alloc: Global,
+    rt: &(impl Abort + AllocGlobal),
     mut store: Connection<S>,
     job: &Job<'_>,
 ) -> (Told, Connection<S>) {
-    if let Job::Edit(statements) = job {
-        let told = Told {
-            edited: store.execute_batch(statements).is_ok(),
-            ..NOTHING_TOLD
-        };
-        return (told, store);
-    }
-    if !store.is_autocommit() {
-        return (NOTHING_TOLD, store);
-    }
-    match Registry::open(store) {
-        Ok(registry) => serve(alloc, registry, job),
-        Err(fault) => (NOTHING_TOLD, fault.store),
+    match job {
+        Job::Edit(statements) => {
+            let edited = store.execute_batch(statements).is_ok();
+            let told = Told { edited, ..NOTHING };
+            (told, store)
+        }
+        Job::LeavePending => (NOTHING, stop_within_remove(rt, store)),
+        Job::Run(change, key) => match open(store) {
+            Ok(mut registry) => {
+                let told = run_on(rt.alloc(), &mut registry, change, key);
+                (told, registry.close())
+            }
+            Err(fault) => (NOTHING, fault.store),
+        },
+        Job::Look => match open(store) {
+            Ok(registry) => look(registry),
+            Err(fault) => (NOTHING, fault.store),
+        },
     }
 }
 
-// The same on files; they come back with whether they stopped. No other function owns a store of
-// two files.
+// The same on files; they come back with whether they stopped.
 fn perform_on_files<D: Disk + Drop>(
-    alloc: Global,
+    rt: &(impl Abort + AllocGlobal),
     files: Files<D>,
     job: &Job<'_>,
 ) -> (Told, bool, Files<D>) {
     if !files.may_be_used() {
-        return (NOTHING_TOLD, true, files);
+        return (NOTHING, true, files);
     }
-    let store = match Connection::open_files(alloc, files, Options::new(1)) {
+    let store = match Connection::open_files(rt.alloc(), files, Options::new(1)) {
         Ok(store) => store,
-        Err((_, left)) => return (NOTHING_TOLD, true, left.into_files()),
+        Err((_, left)) => return (NOTHING, true, left.into_files()),
     };
-    let (told, store) = perform(alloc, store, job);
+    let (told, store) = perform(rt, store, job);
     match store.close_files() {
         Ok(files) => (told, false, files),
         Err((_, store)) => (told, true, store.close()),
     }
 }
 
-// What a run leaves: as the files read, and after a crash.
+// What a job leaves of files: as they read, and after a crash.
 #[derive(Drop)]
-pub(super) struct Outcome {
-    pub(super) reached: Reached,
+pub(super) struct Left {
+    pub(super) told: Told,
     pub(super) stopped: bool,
     pub(super) read: StoreBytes,
-    crashed: StoreBytes,
+    pub(super) crashed: StoreBytes,
 }
 
-// Copies of the bytes, of which each serves so many calls.
-fn files_of(
+/// A job over copies of these files, of which each serves so many calls. No other function names a
+/// store of two files.
+pub(super) fn serve(
     rt: &(impl Abort + AllocGlobal),
     from: &StoreBytes,
     calls: Calls,
-) -> Files<Fuse<Memory>> {
-    got(rt, from.files(rt.alloc(), calls))
-}
-
-fn bytes_of(rt: &(impl Abort + AllocGlobal), files: &Files<Fuse<Memory>>) -> StoreBytes {
-    got(rt, StoreBytes::of(rt.alloc(), files))
-}
-
-fn run_for(
-    rt: &(impl Abort + AllocGlobal),
-    from: &StoreBytes,
-    calls: Calls,
-    change: &Change,
-    key: &str,
-) -> Outcome {
-    let job = Job::Run(change, key);
-    let files = files_of(rt, from, calls);
-    let (told, stopped, mut left) = perform_on_files(rt.alloc(), files, &job);
-    let read = bytes_of(rt, &left);
+    job: &Job<'_>,
+) -> Left {
+    let files = got(rt, from.files(rt.alloc(), calls));
+    let (told, stopped, mut left) = perform_on_files(rt, files, job);
+    let read = got(rt, StoreBytes::of(rt.alloc(), &left));
     left.log.crash();
     left.db.crash();
-    Outcome {
-        reached: told.reached,
+    Left {
+        told,
         stopped,
         read,
-        crashed: bytes_of(rt, &left),
+        crashed: got(rt, StoreBytes::of(rt.alloc(), &left)),
     }
 }
 
-// A run over files that don't stop.
-pub(super) fn run(
-    rt: &(impl Abort + AllocGlobal),
-    from: &StoreBytes,
-    change: &Change,
-    key: &str,
-) -> Outcome {
-    run_for(rt, from, ALL, change, key)
+/// The files after a job that doesn't stop.
+fn after(rt: &(impl Abort + AllocGlobal), from: &StoreBytes, job: &Job<'_>) -> Left {
+    let left = serve(rt, from, ALL, job);
+    must(rt, !left.stopped, "it stopped");
+    left
 }
 
-// The files after these statements of somebody else's.
+/// The files after these statements of somebody else's.
 pub(super) fn edited(
     rt: &(impl Abort + AllocGlobal),
     from: &StoreBytes,
     statements: &str,
 ) -> StoreBytes {
-    let job = Job::Edit(statements);
-    let files = files_of(rt, from, ALL);
-    let (told, stopped, left) = perform_on_files(rt.alloc(), files, &job);
-    must(rt, told.edited && !stopped, "not edited");
-    bytes_of(rt, &left)
+    let left = after(rt, from, &Job::Edit(statements));
+    must(rt, left.told.edited, "not edited");
+    left.read
+}
+
+/// What is found in files that don't stop.
+pub(super) fn look_at(rt: &(impl Abort + AllocGlobal), left: &StoreBytes) -> Found {
+    let told = after(rt, left, &Job::Look).told;
+    told.found.expect(rt, "not opened again")
+}
+
+/// A registry with one component, settled.
+pub(super) fn one_command(rt: &(impl Abort + AllocGlobal)) -> StoreBytes {
+    let run = Job::Run(&labels(rt), "k1");
+    let left = after(rt, &StoreBytes::new(rt.alloc()), &run);
+    must(rt, left.told.settled, "not settled");
+    left.read
+}
+
+/// The registry that is stored as pending.
+pub(super) fn left_pending(rt: &(impl Abort + AllocGlobal)) -> StoreBytes {
+    after(rt, &StoreBytes::new(rt.alloc()), &Job::LeavePending).read
 }
 
 // Each command puts a component more, and asks for the metadata of all.
-fn must_be_between(rt: &impl Abort, found: Found, before: u64, reached: Reached) {
+fn must_be_between(rt: &impl Abort, found: Found, before: u64, told: Told) {
     let count = found.commands;
     let is_known = count == before || count.checked_sub(1) == Some(before);
     must(rt, is_known, "neither before nor after");
@@ -239,37 +213,24 @@ fn must_be_between(rt: &impl Abort, found: Found, before: u64, reached: Reached)
         found.intents == 0 || of_all,
         "intents of no command, or some of them",
     );
-    let is_kept = !reached.accepted || count != before;
+    let is_kept = !told.accepted || count != before;
     must(rt, is_kept, "an acknowledged command is lost");
-    let is_settled = !reached.settled || found.intents == 0;
+    let is_settled = !told.settled || found.intents == 0;
     must(rt, is_settled, "settled intents are back");
-}
-
-fn check(rt: &(impl Abort + AllocGlobal), left: &StoreBytes, before: u64, reached: Reached) {
-    let files = files_of(rt, left, ALL);
-    let (told, _, _) = perform_on_files(rt.alloc(), files, &Job::Look);
-    let found = told.found.expect(rt, "not opened again");
-    must_be_between(rt, found, before, reached);
-}
-
-// The command after so many.
-fn command_after(rt: &(impl Abort + AllocGlobal), before: u64) -> Change {
-    if before == 0 { labels(rt) } else { inserts(rt) }
-}
-
-// Its key.
-fn key_after(before: u64) -> &'static str {
-    if before == 0 { "k1" } else { "k2" }
 }
 
 // One run with a stop, and whether it came; the files are checked as they read and as a crash
 // leaves them.
 fn stop_at(rt: &(impl Abort + AllocGlobal), from: &StoreBytes, before: u64, calls: Calls) -> bool {
-    let change = command_after(rt, before);
-    let run = run_for(rt, from, calls, &change, key_after(before));
-    check(rt, &run.read, before, run.reached);
-    check(rt, &run.crashed, before, run.reached);
-    run.stopped
+    let (change, key) = if before == 0 {
+        (labels(rt), "k1")
+    } else {
+        (inserts(rt), "k2")
+    };
+    let left = serve(rt, from, calls, &Job::Run(&change, key));
+    must_be_between(rt, look_at(rt, &left.read), before, left.told);
+    must_be_between(rt, look_at(rt, &left.crashed), before, left.told);
+    left.stopped
 }
 
 // Stops at each call of the first file, then of the second, until a run ends without a stop.
@@ -281,68 +242,6 @@ fn stop_at_each(rt: &(impl Abort + AllocGlobal), from: &StoreBytes, before: u64)
         db_ended = db_ended || !stop_at(rt, from, before, Calls { db: calls, ..ALL });
     }
     must(rt, log_ended && db_ended, "no run ended");
-}
-
-// What is found of the rows of `loading` in files that may have been carried over.
-const ROWS_FOUND: Found = Found {
-    commands: 3,
-    components: 7,
-    intents: 3,
-};
-
-// Whether an opening that stops finds the rows, if any.
-fn look_at(
-    rt: &(impl Abort + AllocGlobal),
-    from: &StoreBytes,
-    calls: Calls,
-) -> (bool, Files<Fuse<Memory>>) {
-    let files = files_of(rt, from, calls);
-    let (told, stopped, left) = perform_on_files(rt.alloc(), files, &Job::Look);
-    if let Some(found) = told.found {
-        must(rt, found == ROWS_FOUND, "other rows");
-    }
-    (stopped, left)
-}
-
-// The rows are there, once nothing stops.
-fn must_have_rows(rt: &(impl Abort + AllocGlobal), from: &StoreBytes) {
-    let files = files_of(rt, from, ALL);
-    let (told, stopped, _) = perform_on_files(rt.alloc(), files, &Job::Look);
-    must(rt, told.found == Some(ROWS_FOUND) && !stopped, "other rows");
-}
-
-// Two openings that stop in turn, and whether the first did; the rows are there after each, as the
-// files read and as a crash leaves them.
-fn is_carried_through(rt: &(impl Abort + AllocGlobal), from: &StoreBytes, calls: Calls) -> bool {
-    let (stopped, mut left) = look_at(rt, from, calls);
-    let read = bytes_of(rt, &left);
-    must_have_rows(rt, &read);
-    left.log.crash();
-    left.db.crash();
-    let crashed = bytes_of(rt, &left);
-    must_have_rows(rt, &crashed);
-    let (_, again) = look_at(rt, &crashed, calls);
-    must_have_rows(rt, &bytes_of(rt, &again));
-    stopped
-}
-
-// Stops at this call of either file, and whether they came.
-pub(super) fn is_carried_at(
-    rt: &(impl Abort + AllocGlobal),
-    from: &StoreBytes,
-    calls: u64,
-) -> (bool, bool) {
-    (
-        is_carried_through(rt, from, Calls { log: calls, ..ALL }),
-        is_carried_through(rt, from, Calls { db: calls, ..ALL }),
-    )
-}
-
-// A registry with one component, settled.
-pub(super) fn one_command(rt: &(impl Abort + AllocGlobal)) -> StoreBytes {
-    let run = run(rt, &StoreBytes::new(rt.alloc()), &labels(rt), "k1");
-    must(rt, run.reached.settled && !run.stopped, "it stopped");
-    run.read
 }
 
 #[test]

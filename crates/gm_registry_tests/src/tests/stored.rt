@@ -1,7 +1,8 @@
 //! The files that registries are, byte for byte.
 
-use super::stops::one_command;
-use super::{NO_FLAGS, accepts, bare, change, got, label, must, opened, settles};
+use super::calls::{accepts, opened, settles};
+use super::stops::{left_pending, one_command};
+use super::{NO_FLAGS, bare, change, label, must};
 use gm_changes::changed_by;
 use gm_commands::{BalanceWord, Command, NewComponent, NewMirror, Slice, words_of};
 use gm_registry::Registry;
@@ -9,8 +10,6 @@ use gm_state::State;
 use md5::{Digest, Md5};
 use sqlite::{Alter, Connection};
 use std::process::Abort;
-use std::test::Fail;
-use std::{env, fs};
 
 // The MD5 of `examples/registry.sqlite`, which SQLite's own command line was shown.
 const STORED: [u8; 16] = [
@@ -34,34 +33,36 @@ fn a_registry_of_one_command_is_the_stored_file(rt: HostRuntime) {
     must_be(&rt, one_command(&rt).db.as_slice(), STORED);
 }
 
-fn label_command(rt: &impl Abort) -> Command {
-    Command::Label(NewMirror {
-        name: label(rt, "gm0"),
-        provider: label(rt, "a.img"),
-        mid: 7,
-        did: 1,
-        balance: BalanceWord::Load,
-        slice: Slice::new(4096).expect(rt, "no slice"),
-        flags: NO_FLAGS,
-        hardcoded: false,
-    })
-}
-
-// The label, the insert and the remove of the file, by their places.
-fn command_at(rt: &impl Abort, place: usize) -> Command {
+// The label, the insert and the remove of the file, under their keys.
+fn commands(rt: &impl Abort) -> [(&'static str, Command); 3] {
     let name = label(rt, "gm0");
     let provider = label(rt, "b.img");
-    match place {
-        0 => label_command(rt),
-        1 => Command::Insert(NewComponent {
-            name,
-            provider,
-            did: 2,
-            priority: 0,
-            hardcoded: false,
-        }),
-        _ => Command::Remove { name, provider },
-    }
+    [
+        (
+            "k1",
+            Command::Label(NewMirror {
+                name,
+                provider: label(rt, "a.img"),
+                mid: 7,
+                did: 1,
+                balance: BalanceWord::Load,
+                slice: Slice::new(4096).expect(rt, "no slice"),
+                flags: NO_FLAGS,
+                hardcoded: false,
+            }),
+        ),
+        (
+            "k2",
+            Command::Insert(NewComponent {
+                name,
+                provider,
+                did: 2,
+                priority: 0,
+                hardcoded: false,
+            }),
+        ),
+        ("k3", Command::Remove { name, provider }),
+    ]
 }
 
 // Accepts a command, and answers the records after it.
@@ -80,35 +81,24 @@ fn accept_command<S: Alter>(
     after.expect(rt, "no state")
 }
 
-fn stop_within_remove<S: Alter + Drop>(
+/// Accepts the three, and settles each but the last.
+pub(super) fn stop_within_remove<S: Alter + Drop>(
     rt: &(impl Abort + AllocGlobal),
     store: Connection<S>,
 ) -> Connection<S> {
     let mut registry = opened(rt, store);
     let mut state = State::empty(rt.alloc());
-    for (place, key) in ["k1", "k2", "k3"].iter().enumerate() {
-        if place > 0 {
+    let commands = commands(rt);
+    for (key, command) in &commands {
+        if *key != "k1" {
             settles(rt, &mut registry);
         }
-        state = accept_command(rt, &mut registry, &state, &command_at(rt, place), key);
+        state = accept_command(rt, &mut registry, &state, command, key);
     }
     registry.close()
 }
 
-// A path in the folder for temporary files, where there is nothing.
-fn fresh_path(rt: &HostRuntime) -> Result<String, Fail> {
-    let temporary = env::temp_dir(rt)?;
-    let path = format!(in rt.alloc(); "{}/gm-registry-test-pending", temporary.display())?;
-    let _ = fs::remove_file(rt, path.as_str());
-    Ok(path)
-}
-
 #[test]
 fn a_registry_within_a_remove_is_the_stored_file(rt: HostRuntime) {
-    let path = got(&rt, fresh_path(&rt));
-    let store = Connection::open(&rt, path.as_str()).expect(&rt, "no store");
-    let closed = stop_within_remove(&rt, store).close();
-    must(&rt, closed.is_ok(), "not closed");
-    let bytes = fs::read(&rt, path.as_str()).expect(&rt, "not read");
-    must_be(&rt, bytes.as_slice(), PENDING);
+    must_be(&rt, left_pending(&rt).db.as_slice(), PENDING);
 }
