@@ -1,5 +1,6 @@
 # A command that was stopped, of which an image is gone for good: it is given up.
 . "$helpers/records.sh"
+. "$helpers/python.sh"
 
 # An image that is so long that a batch within the limit below can't write its last sector.
 put_far_image() {
@@ -227,4 +228,18 @@ grep -q "^error: invalid value 'ä.img' for '--without <PROV>': " "$work/complai
     pass 'an invalid provider is named' || fail 'an invalid provider is named' "$(head -n 1 "$work/complaints")"
 at_bench status --without b.img --key k4
 expect_words 'a status without an image'
+
+# ---- losses in rows
+
+# Into the program a library is preloaded that fails its first write of an image: so a command is accepted, and nothing of it
+# written. Another one counts what a loss does to images.
+if has_python 'losses in rows'; then
+    if command -v cc >/dev/null && cc -O1 -fPIC -shared -o "$work/stopping.so" "$tests/faults/stopped_calls.c" \
+        2>"$work/complaints" && cc -O1 -fPIC -shared -o "$work/counting.so" "$tests/faults/failing_files.c" \
+        2>"$work/complaints"; then
+        run_script faults/recovery_without.py "$gmbench" "$work/stopping.so" "$work/counting.so" "$work"
+    else
+        skip 'losses in rows' 'there is no C compiler here'
+    fi
+fi
 finish
