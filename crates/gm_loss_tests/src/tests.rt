@@ -1,10 +1,7 @@
-//! The tests: losses that are accepted, losses that are refused, and losses whose shelf or store
-//! stops.
+//! The tests: losses whose shelf or store stops.
 
 mod found;
-mod losses;
 mod media;
-mod refusals;
 mod stops;
 
 use std::process::Abort;

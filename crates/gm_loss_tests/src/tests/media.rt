@@ -1,14 +1,14 @@
-//! What a bench is opened over, a store of two files and images, and what an opening leaves of
-//! both.
+//! What a bench is opened over, a store of two files and images, how either stops, and what an
+//! opening leaves of both.
 
-use super::found::mirrors;
 use super::{got, must};
 use gm_bench::{Answer, Bench, BenchFault, Phase, Without};
-use gm_shelf::{MemShelf, Shelf};
-use gm_test_bench::{try_accept, try_open, try_run};
-use gm_test_media::{ALL, StoreBytes, add, label, sector};
+use gm_shelf::{FaultShelf, MemShelf, Shelf};
+use gm_test_bench::{try_accept, try_open, try_run, try_view};
+use gm_test_media::{ALL, Calls, StoreBytes, add, label, sector};
+use gm_words::status_text;
 use sqlite::{Alter, Connection, Files, Options};
-use sqlite_disk::Disk;
+use sqlite_disk::{Crash, Disk};
 use std::process::Abort;
 
 // Of each unsynced sector what was written last.
@@ -16,6 +16,12 @@ const AS_IT_STANDS: [u32; 12] = [u32::MAX; 12];
 
 // The keys of the commands.
 const KEYS: [&str; 6] = ["k1", "k2", "k3", "k4", "k5", "k6"];
+
+// A mirror of three of which b.img and c.img are left.
+const B_AND_C_OF_THREE: &str = "gm0             DEGRADED 2/3
+  b.img           ACTIVE
+  c.img           ACTIVE
+";
 
 /// A store of two files, and the images that are there.
 #[derive(Drop)]
@@ -30,10 +36,10 @@ pub(super) enum Job {
     /// Commands, a line each, under k1 and so on: the last is accepted alone, and the others are
     /// carried out.
     Accept(&'static str),
-    /// An opening that shows these mirrors.
-    Open(&'static str),
-    /// An opening without a provider, under a key.
-    Lose(&'static str, &'static str),
+    /// An opening that shows the mirror without a.img.
+    Look,
+    /// An opening without a.img, under a key.
+    Lose(&'static str),
 }
 
 /// What a job comes to.
@@ -50,13 +56,32 @@ pub(super) enum Came {
     Failed(BenchFault),
 }
 
-/// What a job leaves, and whether the store stopped.
+/// How media stop.
+#[derive(Clone, Copy)]
+pub(super) struct Stops {
+    /// How many calls each file of the store serves.
+    pub(super) files: Calls,
+    /// From which call on the shelf fails.
+    pub(super) nth: u64,
+    /// Whether that call acts before it fails. No later one does.
+    pub(super) acts: bool,
+}
+
+/// Neither stops.
+pub(super) const NEVER: Stops = Stops {
+    files: ALL,
+    nth: u64::MAX,
+    acts: false,
+};
+
+/// What a job comes to, and what it leaves: whether the store stopped, both media as they stand,
+/// and the store as a crash leaves it.
 #[derive(Drop)]
-pub(super) struct Left<D: Disk, H> {
+pub(super) struct Left {
     pub(super) came: Came,
     pub(super) stopped: bool,
-    pub(super) files: Files<D>,
-    pub(super) shelf: H,
+    pub(super) media: Media,
+    pub(super) crashed: StoreBytes,
 }
 
 /// The image that a crash leaves, if it picks so of each sector that isn't synced.
@@ -64,34 +89,9 @@ pub(super) fn crash_image(rt: &impl Abort, shelf: &MemShelf, picks: &[u32]) -> M
     shelf.crash_image(picks).expect(rt, "no memory")
 }
 
-/// A shelf that holds the same, of which all is synced.
-pub(super) fn copy_of(rt: &impl Abort, shelf: &MemShelf) -> MemShelf {
+// A shelf that holds the same, of which all is synced.
+fn copy_of(rt: &impl Abort, shelf: &MemShelf) -> MemShelf {
     crash_image(rt, shelf, &AS_IT_STANDS)
-}
-
-// All sectors of an image.
-fn sectors_of(rt: &(impl Abort + AllocGlobal), shelf: &mut MemShelf, name: &str) -> Vec<[u8; 512]> {
-    let provider = got(rt, label(name));
-    let count = shelf.sectors(provider).expect(rt, "no image");
-    let mut sectors = Vec::new(rt.alloc());
-    for place in 0..count {
-        let held = got(rt, sector(shelf, name, place));
-        sectors.push(held).expect(rt, "no memory");
-    }
-    sectors
-}
-
-/// The images without those whose names are in this text, which are gone.
-pub(super) fn gone(rt: &(impl Abort + AllocGlobal), shelf: &MemShelf, names: &str) -> MemShelf {
-    let mut all = copy_of(rt, shelf);
-    let mut left = MemShelf::new(rt.alloc());
-    for name in ["a.img", "b.img", "c.img"] {
-        if !names.contains(name) {
-            let sectors = sectors_of(rt, &mut all, name);
-            got(rt, add(&mut left, name, sectors));
-        }
-    }
-    left
 }
 
 // Runs the command at this place, or accepts it alone.
@@ -128,34 +128,28 @@ fn hand_in_all<S: Alter, H: Shelf>(
     }
 }
 
-// A bench that was opened, as a job asks it.
-fn ask<S: Alter, H: Shelf>(
-    rt: &(impl Abort + AllocGlobal),
-    bench: &mut Bench<S, H>,
-    job: Job,
-) -> Came {
-    must(rt, bench.phase() == Phase::Ready, "not ready");
-    match job {
-        Job::Accept(commands) => hand_in_all(rt, bench, commands),
-        Job::Open(shown) => {
-            let text = mirrors(rt, bench);
-            must(rt, text.as_str() == shown, "other mirrors");
-        }
-        Job::Lose(_, _) => panic!(rt; "another job"),
-    }
-    Came::Opened(bench.redone())
+// A status shows the mirror without a.img.
+fn shows_the_others<S: Alter, H: Shelf>(rt: &(impl Abort + AllocGlobal), bench: &mut Bench<S, H>) {
+    let state = try_view(rt.alloc(), bench).expect(rt, "no view");
+    let status = status_text(rt.alloc(), &state).expect(rt, "no memory");
+    must(rt, status.as_str() == B_AND_C_OF_THREE, "other mirrors");
 }
 
-// Opens a bench for a job.
+// Opens a bench for a job that isn't a loss.
 fn opened<S: Alter + Drop, H: Shelf + Drop>(
     rt: &(impl Abort + AllocGlobal),
     store: Connection<S>,
     shelf: H,
-    job: Job,
+    commands: Option<&str>,
 ) -> (Came, Connection<S>, H) {
     match got(rt, try_open(rt.alloc(), store, shelf)) {
         Ok(mut bench) => {
-            let came = ask(rt, &mut bench, job);
+            must(rt, bench.phase() == Phase::Ready, "not ready");
+            match commands {
+                Some(commands) => hand_in_all(rt, &mut bench, commands),
+                None => shows_the_others(rt, &mut bench),
+            }
+            let came = Came::Opened(bench.redone());
             let (store, shelf) = bench.close();
             (came, store, shelf)
         }
@@ -163,15 +157,14 @@ fn opened<S: Alter + Drop, H: Shelf + Drop>(
     }
 }
 
-// Opens a bench without a provider.
+// Opens a bench without a.img.
 fn lost<S: Alter + Drop, H: Shelf + Drop>(
     rt: &(impl Abort + AllocGlobal),
     store: Connection<S>,
     shelf: H,
-    provider: &str,
     key: &str,
 ) -> (Came, Connection<S>, H) {
-    let provider = got(rt, label(provider));
+    let provider = got(rt, label("a.img"));
     assert!(rt; store.is_autocommit());
     match Bench::open_without(rt.alloc(), store, shelf, provider, key) {
         Ok(Without::Opened { bench, answer }) => {
@@ -192,40 +185,65 @@ fn perform<S: Alter + Drop, H: Shelf + Drop>(
     job: Job,
 ) -> (Came, Connection<S>, H) {
     match job {
-        Job::Accept(_) | Job::Open(_) => opened(rt, store, shelf, job),
-        Job::Lose(provider, key) => lost(rt, store, shelf, provider, key),
+        Job::Accept(commands) => opened(rt, store, shelf, Some(commands)),
+        Job::Look => opened(rt, store, shelf, None),
+        Job::Lose(key) => lost(rt, store, shelf, key),
     }
 }
 
-/// A job over files.
-pub(super) fn perform_on_files<D: Disk + Drop, H: Shelf + Drop>(
+// A job over files, and whether the store stopped.
+fn perform_on_files<D: Disk + Drop, H: Shelf + Drop>(
     rt: &(impl Abort + AllocGlobal),
     files: Files<D>,
     shelf: H,
     job: Job,
-) -> Left<D, H> {
+) -> (Came, bool, Files<D>, H) {
     assert!(rt; files.may_be_used());
     let store = match Connection::open_files(rt.alloc(), files, Options::new(1)) {
         Ok(store) => store,
         Err((_, left)) => {
-            return Left {
-                came: Came::Failed(BenchFault::Store),
-                stopped: true,
-                files: left.into_files(),
+            return (
+                Came::Failed(BenchFault::Store),
+                true,
+                left.into_files(),
                 shelf,
-            };
+            );
         }
     };
     let (came, store, shelf) = perform(rt, store, shelf, job);
-    let (stopped, files) = match store.close_files() {
-        Ok(files) => (false, files),
-        Err((_, store)) => (true, store.close()),
+    match store.close_files() {
+        Ok(files) => (came, false, files, shelf),
+        Err((_, store)) => (came, true, store.close(), shelf),
+    }
+}
+
+/// A job over copies of both media that stop so. No other function names the store and the shelf
+/// that a bench is opened over.
+pub(super) fn serve(
+    rt: &(impl Abort + AllocGlobal),
+    (store, shelf): (&StoreBytes, &MemShelf),
+    stops: Stops,
+    job: Job,
+) -> Left {
+    let files = got(rt, store.files(rt.alloc(), stops.files));
+    let copy = copy_of(rt, shelf);
+    let shelf = if stops.acts {
+        FaultShelf::stop_after(copy, stops.nth)
+    } else {
+        FaultShelf::stop_from(copy, stops.nth)
     };
+    let (came, stopped, mut files, shelf) = perform_on_files(rt, files, shelf, job);
+    let media = Media {
+        store: got(rt, StoreBytes::of(rt.alloc(), &files)),
+        shelf: shelf.into_inner(),
+    };
+    files.log.crash();
+    files.db.crash();
     Left {
         came,
         stopped,
-        files,
-        shelf,
+        media,
+        crashed: got(rt, StoreBytes::of(rt.alloc(), &files)),
     }
 }
 
@@ -236,35 +254,38 @@ pub(super) fn perform_over(
     shelf: &MemShelf,
     job: Job,
 ) -> (Came, Media) {
-    let files = got(rt, store.files(rt.alloc(), ALL));
-    let left = perform_on_files(rt, files, copy_of(rt, shelf), job);
+    let left = serve(rt, (store, shelf), NEVER, job);
     must(rt, !left.stopped, "the store stopped");
-    let media = Media {
-        store: got(rt, StoreBytes::of(rt.alloc(), &left.files)),
-        shelf: left.shelf,
-    };
-    (left.came, media)
+    (left.came, left.media)
 }
 
-/// The same over a copy of media.
-pub(super) fn perform_on(rt: &(impl Abort + AllocGlobal), from: &Media, job: Job) -> (Came, Media) {
-    perform_over(rt, &from.store, &from.shelf, job)
+// All four sectors of an image.
+fn sectors_of(rt: &(impl Abort + AllocGlobal), shelf: &mut MemShelf, name: &str) -> Vec<[u8; 512]> {
+    let mut sectors = Vec::new(rt.alloc());
+    for place in 0u64..4 {
+        let held = got(rt, sector(shelf, name, place));
+        sectors.push(held).expect(rt, "no memory");
+    }
+    sectors
 }
 
 /// These images after commands, a line each, under k1 and so on, of which the last is accepted
-/// alone; then those of these names are gone.
+/// alone; then a.img is gone.
 pub(super) fn behind(
     rt: &(impl Abort + AllocGlobal),
-    shelf: MemShelf,
+    shelf: &MemShelf,
     commands: &'static str,
-    names: &str,
 ) -> Media {
     let store = StoreBytes::new(rt.alloc());
-    let (came, left) = perform_over(rt, &store, &shelf, Job::Accept(commands));
+    let (came, mut all) = perform_over(rt, &store, shelf, Job::Accept(commands));
     must(rt, came == Came::Opened(0), "not handed in");
-    let shelf = gone(rt, &left.shelf, names);
+    let mut shelf = MemShelf::new(rt.alloc());
+    for name in ["b.img", "c.img"] {
+        let sectors = sectors_of(rt, &mut all.shelf, name);
+        got(rt, add(&mut shelf, name, sectors));
+    }
     Media {
-        store: left.store,
+        store: all.store,
         shelf,
     }
 }

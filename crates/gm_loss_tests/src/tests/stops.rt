@@ -2,16 +2,13 @@
 //! of what that leaves and of what a crash leaves of it: it is done, or repeated if it was
 //! accepted, and what is found after it is what a loss leaves that wasn't stopped.
 
-use super::found::bare;
-use super::losses::{FILLING, FIRST, PATCHED, PATCHING, done, must_be_over, repeated};
-use super::media::{
-    Came, Job, Left, Media, behind, copy_of, crash_image, perform_on_files, perform_over,
-};
+use super::found::{bare, must_be_in_sync};
+use super::media::{Came, Job, Media, NEVER, Stops, behind, crash_image, perform_over, serve};
 use super::{got, must};
-use gm_bench::BenchFault;
-use gm_shelf::{FaultShelf, MemShelf};
-use gm_test_media::{ALL, Calls, StoreBytes};
-use sqlite_disk::{Crash, Fuse, Memory};
+use gm_bench::{Answer, BenchFault};
+use gm_shelf::MemShelf;
+use gm_state::Reply;
+use gm_test_media::{ALL, Calls, StoreBytes, sector};
 use std::process::Abort;
 
 // A loss is over long before it makes so many calls of the shelf or of a file.
@@ -31,117 +28,124 @@ struct Loss {
     data: [u8; 3],
 }
 
-// Of the source of a copy, and of a component that is patched.
+// Of the source of a copy to b.img, after which c.img is the source; and of a component whose
+// second sector is patched, as that of b.img and c.img is.
 const LOSSES: [Loss; 2] = [
     Loss {
-        commands: FILLING,
+        commands: "label --mid 7 --did 1 gm0 a.img
+insert --did 2 gm0 c.img
+advance gm0 c.img
+insert --did 3 gm0 b.img
+advance gm0 b.img",
         key: "k6",
         number: 6,
         before: 2,
         behind: 4,
         syncid: 1,
-        data: FIRST,
+        data: [10, 11, 12],
     },
     Loss {
-        commands: PATCHING,
+        commands: "label --mid 7 --did 1 gm0 a.img
+insert --did 2 gm0 c.img
+advance gm0 c.img
+insert --did 3 gm0 b.img
+advance gm0 b.img
+patch 1 60 gm0",
         key: "k7",
         number: 7,
         before: 9,
         behind: 8,
         syncid: 2,
-        data: PATCHED,
+        data: [10, 60, 12],
     },
 ];
 
 impl Loss {
-    fn job(self) -> Job {
-        Job::Lose("a.img", self.key)
-    }
-
     // What it comes to that isn't stopped.
     fn done(self) -> Came {
-        done(self.number, self.before)
+        Came::Lost(Answer::Done(self.number, Reply::Plain), self.before)
     }
 
     // What it comes to again while so many intents are pending.
     fn repeated(self, pending: u64) -> Came {
-        repeated(self.number, pending)
+        Came::Lost(Answer::Repeated(self.number, Reply::Plain), pending)
     }
 
     // The media before it: the image is gone.
     fn start(self, rt: &(impl Abort + AllocGlobal)) -> Media {
-        behind(rt, bare(rt), self.commands, "a.img")
+        behind(rt, &bare(rt), self.commands)
     }
 }
 
-// How a shelf stops at its nth call.
-#[derive(Clone, Copy)]
-enum Stop {
-    // That call fails before it acts, and so does each later one.
-    Before,
-    // It acts and fails, and each later one fails before it acts.
-    Behind,
-}
-
-// Which of its two files a store stops at.
-#[derive(Clone, Copy)]
-enum StopsAt {
-    Log,
-    Database,
-}
-
-fn stopping(stop: Stop, shelf: MemShelf, nth: u64) -> FaultShelf<MemShelf> {
-    match stop {
-        Stop::Before => FaultShelf::stop_from(shelf, nth),
-        Stop::Behind => FaultShelf::stop_after(shelf, nth),
-    }
-}
-
-// The loss asked again of what a stop left, and not stopped: all is as it is to be after it; what
-// it came to.
+// The loss asked again of what a stop left, and not stopped: nothing is pending after it, and all
+// is as it is to be; what it came to.
 fn loses_again(
     rt: &(impl Abort + AllocGlobal),
     loss: Loss,
     store: &StoreBytes,
     shelf: &MemShelf,
 ) -> Came {
-    let (came, over) = perform_over(rt, store, shelf, loss.job());
-    must_be_over(rt, &over, loss.syncid, loss.data);
+    let (came, over) = perform_over(rt, store, shelf, Job::Lose(loss.key));
+    let (looked, mut left) = perform_over(rt, &over.store, &over.shelf, Job::Look);
+    must(rt, looked == Came::Opened(0), "something is pending");
+    must_be_in_sync(rt, &mut left.shelf, loss.syncid, loss.data);
     came
 }
 
-// A loss whose shelf stops so at its nth call.
+// A loss whose shelf stops at its nth call, before or after it acts.
 fn stop_shelf(
     rt: &(impl Abort + AllocGlobal),
     loss: Loss,
     from: &Media,
-    stop: Stop,
+    acts: bool,
     nth: u64,
 ) -> (Came, Media) {
-    let files = got(rt, from.store.files(rt.alloc(), ALL));
-    let shelf = stopping(stop, copy_of(rt, &from.shelf), nth);
-    let Left {
-        came,
-        stopped,
-        files,
-        shelf,
-    } = perform_on_files(rt, files, shelf, loss.job());
-    must(rt, !stopped, "the store stopped");
-    let media = Media {
-        store: got(rt, StoreBytes::of(rt.alloc(), &files)),
-        shelf: shelf.into_inner(),
-    };
-    (came, media)
+    let stops = Stops { nth, acts, ..NEVER };
+    let left = serve(rt, (&from.store, &from.shelf), stops, Job::Lose(loss.key));
+    must(rt, !left.stopped, "the store stopped");
+    (left.came, left.media)
 }
 
-// Asks the loss again of each image that a crash may leave of a shelf. No more than three sectors
-// are unsynced at a time, each of them written once. It was accepted before the shelf was called.
+// Whether two shelves hold the same.
+fn are_alike(rt: &impl Abort, first: &mut MemShelf, other: &mut MemShelf) -> bool {
+    let mut alike = true;
+    for at in 0u64..8 {
+        let name = if at < 4 { "b.img" } else { "c.img" };
+        let held = got(rt, sector(first, name, at % 4));
+        alike = alike && held == got(rt, sector(other, name, at % 4));
+    }
+    alike
+}
+
+// The picks of this number of a crash: no more than three sectors are unsynced at a time, each of
+// them written once.
+fn picked(rt: &impl Abort, shelf: &MemShelf, number: u32) -> MemShelf {
+    crash_image(rt, shelf, &[number % 2, number / 2 % 2, number / 4])
+}
+
+// Each number, and the one that lacks its last pick: the same image has been visited if there is no
+// sector for that.
+const NUMBERS: [(u32, u32); 8] = [
+    (0, 0),
+    (1, 0),
+    (2, 0),
+    (3, 1),
+    (4, 0),
+    (5, 1),
+    (6, 2),
+    (7, 3),
+];
+
+// Asks the loss again of each image that a crash may leave of a shelf. It was accepted before the
+// shelf was called.
 fn visit_each(rt: &(impl Abort + AllocGlobal), loss: Loss, left: &Media, pending: u64) {
-    for number in 0u32..8 {
-        let picks = [number % 2, number / 2 % 2, number / 4];
-        let image = crash_image(rt, &left.shelf, &picks);
-        let came = loses_again(rt, loss, &left.store, &image);
-        must(rt, came == loss.repeated(pending), "not repeated");
+    for (number, earlier) in NUMBERS {
+        let mut image = picked(rt, &left.shelf, number);
+        let mut visited = picked(rt, &left.shelf, earlier);
+        if number == 0 || !are_alike(rt, &mut image, &mut visited) {
+            let came = loses_again(rt, loss, &left.store, &image);
+            must(rt, came == loss.repeated(pending), "not repeated");
+        }
     }
 }
 
@@ -151,17 +155,13 @@ fn shelf_stops_at(
     rt: &(impl Abort + AllocGlobal),
     loss: Loss,
     from: &Media,
-    stop: Stop,
-    nth: u64,
+    (acts, nth): (bool, u64),
     expected: &Came,
 ) -> bool {
-    let (came, left) = stop_shelf(rt, loss, from, stop, nth);
+    let (came, left) = stop_shelf(rt, loss, from, acts, nth);
     let ended = came == *expected;
-    must(
-        rt,
-        ended || came == Came::Failed(BenchFault::Disk),
-        "another fault",
-    );
+    let well = ended || came == Came::Failed(BenchFault::Disk);
+    must(rt, well, "another fault");
     visit_each(rt, loss, &left, if ended { 0 } else { loss.behind });
     ended
 }
@@ -171,14 +171,14 @@ fn stop_at_each(
     rt: &(impl Abort + AllocGlobal),
     loss: Loss,
     from: &Media,
-    stop: Stop,
+    acts: bool,
     expected: &Came,
 ) -> u64 {
     let mut calls: u64 = 0;
     let mut ended = false;
     for nth in 1..MANY {
         if !ended {
-            ended = shelf_stops_at(rt, loss, from, stop, nth, expected);
+            ended = shelf_stops_at(rt, loss, from, (acts, nth), expected);
             calls = nth;
         }
     }
@@ -190,8 +190,8 @@ fn stop_at_each(
 fn a_loss_whose_shelf_stops_is_repeated(rt: HostRuntime) {
     for loss in LOSSES {
         let from = loss.start(&rt);
-        for stop in [Stop::Before, Stop::Behind] {
-            let calls = stop_at_each(&rt, loss, &from, stop, &loss.done());
+        for acts in [false, true] {
+            let calls = stop_at_each(&rt, loss, &from, acts, &loss.done());
             println!(rt; "{calls} calls of the shelf").expect(&rt, "no output");
             must(&rt, calls > 10, "a stop didn't come");
         }
@@ -199,112 +199,74 @@ fn a_loss_whose_shelf_stops_is_repeated(rt: HostRuntime) {
 }
 
 // A loss that was stopped after its commit, and is stopped again when it is repeated.
-fn stop_twice(rt: &(impl Abort + AllocGlobal), loss: Loss, from: &Media, stop: Stop, first: u64) {
-    let (came, left) = stop_shelf(rt, loss, from, stop, first);
+fn stop_twice(rt: &(impl Abort + AllocGlobal), loss: Loss, from: &Media, acts: bool, first: u64) {
+    let (came, left) = stop_shelf(rt, loss, from, acts, first);
     must(rt, came == Came::Failed(BenchFault::Disk), "no stop");
-    let again = Media {
-        shelf: copy_of(rt, &left.shelf),
-        ..left
-    };
-    stop_at_each(rt, loss, &again, stop, &loss.repeated(loss.behind));
+    stop_at_each(rt, loss, &left, acts, &loss.repeated(loss.behind));
 }
 
 // A loss that stopped so, and is stopped so again at each call of the shelf.
-fn stop_repeated(rt: &(impl Abort + AllocGlobal), stop: Stop) {
+fn stop_repeated(rt: &(impl Abort + AllocGlobal), acts: bool) {
     for loss in LOSSES {
         let from = loss.start(rt);
         for first in 1..8 {
-            stop_twice(rt, loss, &from, stop, first);
+            stop_twice(rt, loss, &from, acts, first);
         }
     }
 }
 
 #[test]
 fn a_repeated_loss_whose_shelf_stops_before_a_call_is_repeated(rt: HostRuntime) {
-    stop_repeated(&rt, Stop::Before);
+    stop_repeated(&rt, false);
 }
 
 #[test]
 fn a_repeated_loss_whose_shelf_stops_after_a_call_is_repeated(rt: HostRuntime) {
-    stop_repeated(&rt, Stop::Behind);
-}
-
-// What a loss leaves whose store stops: what it came to, whether the store stopped, and both media
-// as they stand and as a crash leaves them, which loses of both what isn't synced.
-#[derive(Drop)]
-struct Outcome {
-    came: Came,
-    stopped: bool,
-    standing: Media,
-    crashed: Media,
-}
-
-fn outcome_of(rt: &(impl Abort + AllocGlobal), left: Left<Fuse<Memory>, MemShelf>) -> Outcome {
-    let Left {
-        came,
-        stopped,
-        mut files,
-        shelf,
-    } = left;
-    let crashed_shelf = crash_image(rt, &shelf, &[]);
-    let standing = Media {
-        store: got(rt, StoreBytes::of(rt.alloc(), &files)),
-        shelf,
-    };
-    files.log.crash();
-    files.db.crash();
-    let crashed = Media {
-        store: got(rt, StoreBytes::of(rt.alloc(), &files)),
-        shelf: crashed_shelf,
-    };
-    Outcome {
-        came,
-        stopped,
-        standing,
-        crashed,
-    }
-}
-
-// A loss over files that serve so many calls.
-fn lose_for(rt: &(impl Abort + AllocGlobal), loss: Loss, from: &Media, calls: Calls) -> Outcome {
-    let files = got(rt, from.store.files(rt.alloc(), calls));
-    outcome_of(
-        rt,
-        perform_on_files(rt, files, copy_of(rt, &from.shelf), loss.job()),
-    )
+    stop_repeated(&rt, true);
 }
 
 // The loss is done if its commit didn't come, and else repeated, with all or nothing of it
 // pending; nothing is if it was answered.
-fn visit(rt: &(impl Abort + AllocGlobal), loss: Loss, left: &Media, was_done: bool) {
-    let came = loses_again(rt, loss, &left.store, &left.shelf);
+fn visit(
+    rt: &(impl Abort + AllocGlobal),
+    loss: Loss,
+    store: &StoreBytes,
+    shelf: &MemShelf,
+    was_done: bool,
+) {
+    let came = loses_again(rt, loss, store, shelf);
     let is_over = came == loss.repeated(0);
     let stays = came == loss.done() || came == loss.repeated(loss.behind);
     must(rt, is_over || stays && !was_done, "another answer");
 }
 
-// One loss with a stop; whether the stop didn't come.
-fn store_stops_at(rt: &(impl Abort + AllocGlobal), loss: Loss, from: &Media, calls: Calls) -> bool {
-    let outcome = lose_for(rt, loss, from, calls);
-    let was_done = outcome.came == loss.done();
-    let well = was_done || outcome.came == Came::Failed(BenchFault::Store);
+// One loss over files that serve so many calls, and both media as they stand and as a crash leaves
+// them, which loses of both what isn't synced; whether the stop didn't come.
+fn store_stops_at(rt: &(impl Abort + AllocGlobal), loss: Loss, from: &Media, files: Calls) -> bool {
+    let stops = Stops { files, ..NEVER };
+    let left = serve(rt, (&from.store, &from.shelf), stops, Job::Lose(loss.key));
+    let was_done = left.came == loss.done();
+    let well = was_done || left.came == Came::Failed(BenchFault::Store);
     must(rt, well, "another fault");
-    visit(rt, loss, &outcome.standing, was_done);
-    visit(rt, loss, &outcome.crashed, was_done);
-    was_done && !outcome.stopped
+    visit(rt, loss, &left.media.store, &left.media.shelf, was_done);
+    let crashed = crash_image(rt, &left.media.shelf, &[]);
+    visit(rt, loss, &left.crashed, &crashed, was_done);
+    was_done && !left.stopped
 }
 
-// Stops at each call of a file in turn, until a loss ends without a stop; after how many calls.
-fn stop_file(rt: &(impl Abort + AllocGlobal), loss: Loss, from: &Media, stops_at: StopsAt) -> u64 {
+// Stops at each call of a file in turn, of the log or of the database, until a loss ends without
+// a stop; after how many calls.
+fn stop_file(rt: &(impl Abort + AllocGlobal), loss: Loss, from: &Media, is_log: bool) -> u64 {
     let mut count: u64 = 0;
     let mut ended = false;
     for served in 0..MANY {
         if !ended {
-            let calls = match stops_at {
-                StopsAt::Log => Calls { log: served, ..ALL },
-                StopsAt::Database => Calls { db: served, ..ALL },
+            let files = if is_log {
+                Calls { log: served, ..ALL }
+            } else {
+                Calls { db: served, ..ALL }
             };
-            ended = store_stops_at(rt, loss, from, calls);
+            ended = store_stops_at(rt, loss, from, files);
             count = served;
         }
     }
@@ -316,8 +278,8 @@ fn stop_file(rt: &(impl Abort + AllocGlobal), loss: Loss, from: &Media, stops_at
 fn a_loss_whose_store_stops_is_done_or_repeated(rt: HostRuntime) {
     for loss in LOSSES {
         let from = loss.start(&rt);
-        for stops_at in [StopsAt::Log, StopsAt::Database] {
-            let calls = stop_file(&rt, loss, &from, stops_at);
+        for is_log in [true, false] {
+            let calls = stop_file(&rt, loss, &from, is_log);
             println!(rt; "{calls} calls of a file").expect(&rt, "no output");
             must(&rt, calls > 2, "a stop didn't come");
         }
