@@ -3,7 +3,7 @@
 use super::writers::wide;
 use super::{
     DESTROY, DONE, INSERT, LABEL, NO_MIRRORS, REFUSED, REMOVE, Told, answers, answers_some, images,
-    in_memory, must, open, shows, tell, try_batch, try_status,
+    in_memory, must, open, serving, shows, tell, try_batch, try_status,
 };
 use gm_bench::{Bench, BenchFault};
 use gm_front::{BatchEnd, FrontFault};
@@ -181,7 +181,7 @@ fn stops_at<S: Alter + Drop>(
     let mut bench = open(rt, store, failing(stop, images(rt), nth));
     let done = plays(rt, &mut bench, fault_of(stop), true);
     let (store, stopped) = bench.close();
-    let mut bench = open(rt, store, stopped.into_inner());
+    let mut bench = open(rt, store, serving(stopped.into_inner()));
     goes_on(rt, &mut bench, done);
     done
 }
