@@ -74,13 +74,13 @@ batch "$label$insert"
 put_image "$bench/images/b.img" b bare
 keep_bench
 wrong=
-while IFS='|' read -r command told; do
-    echo "k3 $command" >"$work/lines"
+while IFS='|' read -r asked told; do
+    echo "k3 $asked" >"$work/lines"
     at_bench batch --audit <"$work/lines"
     [ "$told" = amiss ] && told='k3 not done
 b.img no metadata'
     if [ "$status" != 1 ] || [ "$(cat "$work/output")" != "$told" ] || [ -s "$work/complaints" ]; then
-        wrong=${wrong:-"$command: status $status, '$(cat "$work/output" "$work/complaints")', and not '$told'"}
+        wrong=${wrong:-"'$asked': status $status, '$(cat "$work/output" "$work/complaints")', and not '$told'"}
     fi
 done <<'END'
 insert --did 3 gm0 c.img|amiss
