@@ -34,7 +34,7 @@ if has_python 'a thousand images with 64 descriptors'; then
     done >"$work/wanted-taste"
     with_few_descriptors taste --shelf "$bench/images"
     expect 'a taste of 1,024 images with 64 descriptors' 0 "$(cat "$work/wanted-taste")" ''
-    # no mirror may be added to as many as there may be, and no component to one of as many as it may have
+    # There are as many mirrors as there may be, each of as many components as it may have.
     put_image "$bench/images/more" m bare
     printf 'k64 label --mid 64 --did 1 gm64 more\nk64 insert --did 16 gm63 more\n' >"$work/lines"
     with_few_descriptors batch $at_the_bench <"$work/lines"
