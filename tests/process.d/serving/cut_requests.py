@@ -102,7 +102,8 @@ def fail_after_each_byte(title, request, answer, again, labelled):
         put(labelled)
         counts["bytes"] += len(told) - 1
         found, ended = serve([request] * len(told), **{f"CUT_{call}": "yes"})
-        check(f"{title}, {call.lower()} that fail after each byte", found, told)
+        for room, (answered, wanted) in enumerate(zip(found, told)):
+            check(f"{title}, {call.lower()} that fail after {room} bytes", answered, wanted)
         check(f"{title}, {call.lower()} that fail after each byte: the server's end", ended, (0, b""))
 
 
