@@ -137,12 +137,7 @@ PATCHES = [
         "INSERT INTO intents VALUES (6, 1, 'e.img', '', 0, 0)",
 ]
 
-# Other tables, and other records of their schema.
-MIRRORS = """
-CREATE TABLE mirrors(name TEXT PRIMARY KEY NOT NULL, mid INTEGER NOT NULL UNIQUE,
-  total INTEGER NOT NULL, genid INTEGER NOT NULL, syncid INTEGER NOT NULL, slice INTEGER NOT NULL,
-  balance INTEGER NOT NULL, mediasize INTEGER NOT NULL, mflags INTEGER NOT NULL) STRICT
-"""
+# Edits of the tables of a registry with one command, and of the number of their schema.
 TABLES = [
     "UPDATE about SET schema_no = 3",
     "UPDATE about SET schema_no = 1",
@@ -154,7 +149,14 @@ TABLES = [
     """DROP TABLE intents; CREATE TABLE intents(ord INTEGER PRIMARY KEY, kind INTEGER NOT NULL, prov TEXT NOT NULL,
   source TEXT NOT NULL, first_sector INTEGER NOT NULL, end_sector INTEGER NOT NULL, more INTEGER) STRICT""",
 ]
-FOREIGN = ["CREATE TABLE note(a INTEGER) STRICT", MIRRORS]
+
+# Statements that make another store: with a table of somebody else's, and with one of the six tables alone.
+FOREIGN = [
+    "CREATE TABLE note(a INTEGER) STRICT",
+    """CREATE TABLE mirrors(name TEXT PRIMARY KEY NOT NULL, mid INTEGER NOT NULL UNIQUE,
+  total INTEGER NOT NULL, genid INTEGER NOT NULL, syncid INTEGER NOT NULL, slice INTEGER NOT NULL,
+  balance INTEGER NOT NULL, mediasize INTEGER NOT NULL, mflags INTEGER NOT NULL) STRICT""",
+]
 
 UNREADABLE = (3, "", "gmbench: F6 registry unreadable\n")
 OPENINGS = [["recover"], ["status"], ["list"], ["audit"], ["batch"], ["status", "--read-only"]]
@@ -277,12 +279,13 @@ begin()
 check("a command", place.run(["batch"], b"k1 label --mid 7 --did 1 gm0 a.img\n")[1], "k1 ok 1\n")
 place.keep("kept")
 are_left("tables", TABLES)
-os.remove(place.registry)
+place.forget_registry()
 place.keep("kept")
 are_left("a store without tables", FOREIGN)
 
 # A registry of the first schema with these rows is carried over, though an image is away.
 begin()
+place.forget_registry()
 shutil.copyfile(first_schema, place.registry)
 edit("DELETE FROM intents; DELETE FROM commands; DELETE FROM components; DELETE FROM mirrors", ROWS)
 before = rows()
