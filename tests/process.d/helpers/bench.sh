@@ -17,6 +17,18 @@ fresh_bench() {
     put_bench "$1" bare bare
 }
 
+# A bench of two mirrors that were found on images: gm0, with each flag, has one that is hardcoded and is being filled, and
+# gm1 one that is out of use.
+two_mirrors() {
+    fresh_bench "$1"
+    set -- 36 '\010' 44 '\002' 45 '\003' 49 '\004' 54 '\000\040' 58 '\001' 79 '\003'
+    put_edited "$bench/images/a.img" a 40 '\002' "$@"
+    put_edited "$bench/images/b.img" a 53 '\005' 71 '\000\002' 87 '\006' 95 b.img "$@"
+    put_edited "$bench/images/c.img" c 20 gm1 44 '\002'
+    put_edited "$bench/images/d.img" c 20 gm1 40 '\002' 44 '\002' 87 '\010'
+    batch 'k1 adopt gm0 a.img b.img\nk2 adopt gm1 c.img d.img\n'
+}
+
 # A bench that stopped when it had accepted the removal of b.img from gm0, and had written nothing of it.
 stopped_remove() {
     put_bench "$1" pending-a pending-b

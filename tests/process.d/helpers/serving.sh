@@ -43,11 +43,22 @@ send_file() {
     python3 -B "$tests/serving/client.py" "$port" "$1" >"$work/response" 2>"$work/complaints"
 }
 
-# Sends a POST of a command with this body, and keeps the last line of the response.
-post() {
-    printf 'POST /commands HTTP/1.1\r\nContent-Length: %s\r\n\r\n%s' "${#1}" "$1" >"$work/request"
+# Sends the request that was made, and keeps the last line of the response.
+keep_body() {
     send_file "$work/request"
     status=$?
     tail -n 1 "$work/response" >"$work/output"
     echo >>"$work/output"
+}
+
+# Sends a POST of a command with this body, and keeps the last line of the response.
+post() {
+    printf 'POST /commands HTTP/1.1\r\nContent-Length: %s\r\n\r\n%s' "${#1}" "$1" >"$work/request"
+    keep_body
+}
+
+# Sends a GET of this target, and keeps the last line of the response.
+get() {
+    printf 'GET %s HTTP/1.1\r\n\r\n' "$1" >"$work/request"
+    keep_body
 }

@@ -1,4 +1,4 @@
-# What commands print as JSON: the answers of commands, and what `recover`, `pending`, `sync`, `list` and `status` say.
+# What commands print as JSON: the answers of commands, and what `recover`, `pending`, `sync` and each look say.
 . "$helpers/bench.sh"
 
 # Whether the last run ended so, and printed this line and nothing else.
@@ -46,6 +46,11 @@ expect_line 'the same under a key' 1 '{"answer":"not done","images":[{"image":"b
 at_bench do --json --unchecked k4 rebuild gm0 b.img
 expect_line 'without a look' 1 '{"answer":"refused","key":"k4","number":8}'
 mv "$work/away" "$bench/images/b.img"
+truncate -s 2560 "$bench/images/b.img"
+at_bench do --json k4 rebuild gm0 b.img
+expect_line 'an image of another size in the way' 1 \
+    '{"answer":"not done","images":[{"image":"b.img","standing":"another size"}],"key":"k4"}'
+truncate -s 2048 "$bench/images/b.img"
 at_bench adopt --all --json
 expect_words 'all mirrors are adopted in lines alone'
 
@@ -67,6 +72,70 @@ at_bench list --json
 expect_line 'a list of none' 0 '{"mirrors":[]}'
 at_bench status --json
 expect_line 'a status of none' 0 '{"mirrors":[]}'
+
+two_mirrors of_each
+expect 'two mirrors are found' 0 "$(lines 'k1 ok 1\nk2 ok 2')" ''
+at_bench list --json
+expect_line 'a list of both' 0 '{"mirrors":[{"all":2,"balance":"round-robin","components":[{"did":2,"flags":[],'\
+'"hardcoded":false,"name":"a.img","offset":0,"priority":0,"provsize":2048,"state":"ACTIVE","syncid":4},{"did":1,'\
+'"flags":["SYNCHRONIZING","FORCE_SYNC"],"hardcoded":true,"name":"b.img","offset":512,"priority":5,"provsize":2048,'\
+'"state":"SYNCHRONIZING","syncid":4}],"flags":["NOAUTOSYNC","NOFAILSYNC"],"genid":3,"mediasize":1536,"mid":8,'\
+'"name":"gm0","slice":8192,"state":"DEGRADED","syncid":4},{"all":2,"balance":"load","components":[{"did":1,"flags":[],'\
+'"hardcoded":false,"name":"c.img","offset":0,"priority":0,"provsize":2048,"state":"ACTIVE","syncid":1},{"did":2,'\
+'"flags":["INACTIVE"],"hardcoded":false,"name":"d.img","offset":0,"priority":0,"provsize":2048,"state":"INACTIVE",'\
+'"syncid":1}],"flags":[],"genid":0,"mediasize":1536,"mid":7,"name":"gm1","slice":4096,"state":"DEGRADED","syncid":1}]}'
+at_bench status --json
+expect_line 'a status of both' 0 '{"mirrors":[{"components":[{"name":"a.img","of":3,"sectors":3,"state":"ACTIVE"},'\
+'{"name":"b.img","of":3,"sectors":1,"state":"SYNCHRONIZING"}],"name":"gm0","state":"DEGRADED"},{"components":['\
+'{"name":"c.img","of":3,"sectors":3,"state":"ACTIVE"},{"name":"d.img","of":3,"sectors":0,"state":"INACTIVE"}],'\
+'"name":"gm1","state":"DEGRADED"}]}'
+overwrite "$bench/images/b.img" 200 x
+overwrite "$bench/images/d.img" 200 x
+at_bench audit --json
+expect_line 'an audit' 1 '{"amiss":["b.img","d.img"]}'
+
+# ---- images that are looked at
+
+# gm0 has a source that is sure, gm1 none, and gm2 one that says DIRTY.
+images=$work/looked-at
+mkdir "$images"
+run taste --json --shelf "$images"
+expect_line 'a taste of nothing' 0 '{"left_out":[],"mirrors":[],"passed_over":[]}'
+ln -s a.img "$images/link"
+run taste --json --shelf "$images"
+expect_line 'a taste of a link' 0 '{"left_out":[],"mirrors":[],"passed_over":[{"name":"link","reason":"a link"}]}'
+put_edited "$images/a.img" a 45 '\005' 49 '\006'
+put_edited "$images/b.img" a 40 '\002' 45 '\005' 49 '\006' 71 '\000\004' 87 '\003'
+put_edited "$images/c.img" c 20 gm1 36 '\010' 45 '\004' 49 '\006'
+put_edited "$images/d.img" c 20 gm1 36 '\010' 40 '\002' 45 '\005' 49 '\006' 87 '\010'
+put_edited "$images/e.img" c 20 gm1 36 '\010' 40 '\003' 45 '\005' 49 '\005' 79 '\001'
+put_edited "$images/f.img" f
+overwrite "$images/f.img" 100 '\001'
+put_edited "$images/g.img" g 95 a.img
+put_edited "$images/h.img" h 111 '\000\006'
+put_image "$images/k.img" k bare
+put_edited "$images/l.img" l 20 gm2 36 '\011' 45 '\005' 49 '\006' 87 '\001'
+put_image "$images/$(printf 'bell\007')" b bare
+put_image "$images/ä" a bare
+run taste --json --shelf "$images"
+expect_line 'a taste of each state, of each way to be left out, and of names' 1 '{"left_out":[{"name":"f.img",'\
+'"reason":"fault 3"},{"name":"g.img","reason":"names another image"},{"name":"h.img","reason":"tells another size"},'\
+'{"name":"k.img","reason":"no metadata"}],"mirrors":[{"components":[{"dirty":false,"name":"a.img","state":"ACTIVE"},'\
+'{"copied":2,"dirty":true,"name":"b.img","of":3,"state":"SYNCHRONIZING"}],"genid":5,"mid":7,"name":"gm0",'\
+'"source":"a.img","sure":true,"syncid":6},{"components":[{"dirty":false,"name":"c.img","state":"BROKEN"},'\
+'{"dirty":false,"name":"d.img","state":"INACTIVE"},{"copied":0,"dirty":false,"name":"e.img","of":3,"state":"STALE"}],'\
+'"genid":5,"mid":8,"name":"gm1","source":"","sure":false,"syncid":6},{"components":[{"dirty":true,"name":"l.img",'\
+'"state":"ACTIVE"}],"genid":5,"mid":9,"name":"gm2","source":"l.img","sure":false,"syncid":6}],"passed_over":['\
+'{"name":"bell\u0007","reason":"name with other characters"},{"name":"link","reason":"a link"},{"name":"ä",'\
+'"reason":"name with other characters"}]}'
+run dump --json --shelf "$images" f.img
+expect_line 'a dump of a sector that is damaged' 1 '{"decode":3}'
+put_edited "$images/b.img" b 36 '\357\276\255\336' 40 '\002' 44 '\003' 45 '\005' 49 '\006' 53 '\310' 54 '\000\040' \
+    58 '\003' 71 '\000\004' 79 '\001' 87 '\006' 95 b.img
+run dump --json --shelf "$images" b.img
+expect_line 'a dump, each field of which has a value of its own' 0 '{"all":3,"balance":"split","dflags":6,"did":2,"genid":5,'\
+'"mediasize":1536,"mflags":1,"mid":3735928559,"name":"gm0","priority":200,"provider":"b.img","provsize":2048,'\
+'"slice":8192,"sync_offset":1024,"syncid":6}'
 
 # ---- what is filled
 

@@ -119,38 +119,48 @@ expect_same 'components stand in byte order of their names' "$work/names" "$work
 
 # ---- all that a taste prints at once
 
-# The greatest numbers and the longest names, each state of an image, and each way to be left out.
+# The greatest numbers and the longest names, each state of an image, those that say DIRTY, each way to be left out, and what
+# is no image.
 images=$work/tasted-at-once
 mkdir "$images"
 set -- 20 fifteen-letters 36 '\377\377\377\377' 49 '\000'
 put_edited "$images/a.img" a "$@" 53 '\011'
-put_edited "$images/fifteen-letter2" f "$@" 45 '\001' 53 '\011' 87 '\010'
+put_edited "$images/fifteen-letter2" f "$@" 45 '\001' 53 '\011' 87 '\011'
 put_edited "$images/z" z "$@" 45 '\001' 53 '\011' 59 '\000\000' 71 '\377\377\377\377\377\377\377\377' \
     79 '\001' 87 '\002'
 put_edited "$images/b.img" b 45 '\002'
-put_edited "$images/c.img" c 45 '\002' 53 '\003'
-put_edited "$images/d.img" d 45 '\002' 53 '\310' 71 '\000\004' 87 '\002'
+put_edited "$images/c.img" c 45 '\002' 53 '\003' 87 '\001'
+put_edited "$images/d.img" d 45 '\002' 53 '\310' 71 '\000\004' 87 '\003'
 put_image "$images/e.img" e bare
 put_edited "$images/f.img" f 16 '\005'
 put_edited "$images/g.img" g 68 '\004'
 put_edited "$images/h.img" h 95 a.img
 put_edited "$images/i.img" i 111 '\000\004'
+put_edited "$images/j.img" j 20 gm1 87 '\001'
+put_edited "$images/k.img" k 20 gm1 40 '\002' 87 '\001'
+put_image "$images/two words" t bare
 run taste --shelf "$images"
 expect 'a taste of each state, and of each way to be left out' 1 'fifteen-letters mid 4294967295 genid 1 syncid 0
   a.img           BROKEN
-  fifteen-letter2 INACTIVE
+  fifteen-letter2 INACTIVE DIRTY
   z               STALE 36028797018963967 of 0
   source: (none)
 gm0             mid 7 genid 2 syncid 1
   b.img           ACTIVE
-  c.img           ACTIVE
-  d.img           SYNCHRONIZING 2 of 3
+  c.img           ACTIVE DIRTY
+  d.img           SYNCHRONIZING 2 of 3 DIRTY
   source: c.img
+gm1             mid 7 genid 0 syncid 1
+  j.img           ACTIVE DIRTY
+  k.img           ACTIVE DIRTY
+  source: j.img, but none is sure: each ACTIVE one is DIRTY
 left out:
   e.img           no metadata
   f.img           fault 2
   g.img           fault 8
   h.img           names another image
-  i.img           tells another size' ''
+  i.img           tells another size
+passed over:
+  two?words       name with other characters' ''
 set --
 finish

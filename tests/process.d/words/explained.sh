@@ -105,8 +105,11 @@ batch "$label"
     trap '' XFSZ
     ulimit -f 40
     at_bench do k2 configure --slice 8192 gm0
-    expect 'a registry that may not grow' 3 'k2 fault 2' "gmbench: F2 store
+    full="gmbench: F2 store
 F2: $registry can't be read or written: its medium may be full; or it is no registry"
+    expect 'a registry that may not grow' 3 'k2 fault 2' "$full"
+    at_bench do --json k2 configure --slice 8192 gm0
+    expect 'the same as JSON' 3 '{"answer":"fault","key":"k2","number":2}' "$full"
     echo "$passed $failed" >"$work/counted"
 )
 [ -s "$work/counted" ] && read -r passed failed <"$work/counted"
