@@ -1,10 +1,9 @@
 //! A copy and the metadata that claim it, stopped before each call, with every image that a crash
-//! may then leave. `copies.rt` tries copies alone, `comparing.rt` the count of equal sectors,
-//! `differing.rt` that of those which differ, and `patches.rt` a patch.
+//! may then leave. `copies.rt` tries copies alone, `comparing.rt` the counts of sectors that are equal
+//! and that differ, and `patches.rt` a patch.
 
 mod comparing;
 mod copies;
-mod differing;
 mod patches;
 
 use gm_apply::apply;
@@ -199,11 +198,6 @@ fn fills<H: Shelf>(rt: &(impl Abort + AllocGlobal), shelf: &mut H) {
     must_be_filled(rt, shelf);
 }
 
-#[test]
-fn a_whole_run_fills_the_component(rt: HostRuntime) {
-    fills(&rt, &mut shelf_before(&rt));
-}
-
 // An image claims what it holds, and leads on.
 fn claims_and_leads_on<H: Shelf>(rt: &(impl Abort + AllocGlobal), image: &mut H) {
     must_hold_claimed(rt, image, "a");
@@ -225,7 +219,7 @@ fn every_image_claims_what_it_holds_and_leads_on(rt: HostRuntime) {
 }
 
 #[test]
-fn a_shelf_without_the_provider_or_its_sectors(rt: HostRuntime) {
+fn a_clear_wants_its_sector_and_leaves_zeros(rt: HostRuntime) {
     let provider = label(&rt, "a");
     let mut shelf = MemShelf::new(rt.alloc());
     let absent = try_apply(&rt, &mut shelf, &[Intent::Meta { provider }]);
@@ -233,17 +227,9 @@ fn a_shelf_without_the_provider_or_its_sectors(rt: HostRuntime) {
     add(&rt, &mut shelf, "a", Vec::new(rt.alloc()));
     let range = try_apply(&rt, &mut shelf, &[Intent::Clear { provider }]);
     must(&rt, range == Err(ShelfFault::Range), "not too short");
-}
-
-fn clears<H: Shelf>(rt: &(impl Abort + AllocGlobal), shelf: &mut H) {
-    let provider = label(rt, "b");
-    applies(rt, shelf, &[Intent::Clear { provider }]);
-    for (provider, place, byte) in [("b", 2, 0), ("b", 1, 0), ("a", 1, DATA[1])] {
-        must_hold(rt, shelf, provider, place, byte);
+    let mut shelf = shelf_before(&rt);
+    applies(&rt, &mut shelf, &[Intent::Clear { provider }]);
+    for (place, byte) in [(0, DATA[0]), (1, DATA[1]), (2, 0)] {
+        must_hold(&rt, &mut shelf, "a", place, byte);
     }
-}
-
-#[test]
-fn a_clear_leaves_zeros(rt: HostRuntime) {
-    clears(&rt, &mut shelf_before(&rt));
 }

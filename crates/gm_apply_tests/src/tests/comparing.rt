@@ -1,7 +1,9 @@
-//! How many first sectors are equal. A run is 128 sectors.
+//! How many first sectors of two images are equal, and how they differ. A run is 128 sectors, and the
+//! shelf reads each sector of it by itself.
 
 use super::{add, label, must};
-use gm_apply::{Unwatched, equal_sectors};
+use gm_apply::{Difference, Unwatched, Watch, differing_sectors, equal_sectors};
+use gm_metadata::Label;
 use gm_shelf::{FaultShelf, MemShelf, Shelf, ShelfFault};
 use std::process::Abort;
 
@@ -20,108 +22,109 @@ fn image(rt: &(impl Abort + AllocGlobal), sectors: u16, differing: &[u16]) -> Ve
     image
 }
 
-/// Two providers of so many sectors each, which differ at these places.
-pub(super) fn two_images(
-    rt: &(impl Abort + AllocGlobal),
-    sectors: [u16; 2],
-    differing: &[u16],
-) -> MemShelf {
+// Two providers, one of 300 sectors and one of so many, which differ at these places.
+fn two_images(rt: &(impl Abort + AllocGlobal), sectors: u16, differing: &[u16]) -> MemShelf {
     let mut shelf = MemShelf::new(rt.alloc());
-    add(rt, &mut shelf, "a", image(rt, sectors[0], &[]));
-    add(rt, &mut shelf, "b", image(rt, sectors[1], differing));
+    add(rt, &mut shelf, "a", image(rt, 300, &[]));
+    add(rt, &mut shelf, "b", image(rt, sectors, differing));
     shelf
 }
 
-// What is counted of two images by their names.
-fn count<H: Shelf>(
+// What it was told last, and how often it was told.
+#[derive(Clone, Copy)]
+struct Told {
+    calls: u64,
+    sectors: u64,
+    total: u64,
+}
+
+impl Watch for Told {
+    fn compared(&mut self, _provider: Label, sectors: u64, total: u64) {
+        self.calls = self.calls.saturating_add(1);
+        self.sectors = sectors;
+        self.total = total;
+    }
+}
+
+const UNTOLD: Told = Told {
+    calls: 0,
+    sectors: 0,
+    total: 0,
+};
+
+fn equal<H: Shelf>(rt: &impl Abort, shelf: &mut H, limit: u64) -> Result<u64, ShelfFault> {
+    let (a, b) = (label(rt, "a"), label(rt, "b"));
+    equal_sectors(shelf, a, b, limit, &mut Unwatched)
+}
+
+fn difference<H: Shelf>(
     rt: &impl Abort,
     shelf: &mut H,
-    first: &str,
-    second: &str,
-    limit: u64,
-) -> Result<u64, ShelfFault> {
-    equal_sectors(
-        shelf,
-        label(rt, first),
-        label(rt, second),
-        limit,
-        &mut Unwatched,
-    )
+    sectors: u64,
+    told: &mut Told,
+) -> Result<Difference, ShelfFault> {
+    let (a, b) = (label(rt, "a"), label(rt, "b"));
+    differing_sectors(shelf, a, b, sectors, told)
 }
 
-// What is counted of two images of 300 sectors that differ at these places.
-fn must_count(rt: &(impl Abort + AllocGlobal), differing: &[u16], limit: u64, counted: u64) {
-    let mut shelf = two_images(rt, [300, 300], differing);
-    let given = count(rt, &mut shelf, "a", "b", limit);
-    must(rt, given == Ok(counted), "another count");
-}
+// Which of 300 sectors differ, and how many are compared. How many first ones are equal, how many
+// differ, which is the first of these, and in how many runs the watch is told of them.
+type Case = (&'static [u16], u64, u64, u64, u64, u64);
 
-// Which sectors differ, the limit, and what is counted.
-type Case = (&'static [u16], u64, u64);
-
-const FIRST: [Case; 7] = [
-    (&[], u64::MAX, 300),
-    (&[0], 300, 0),
-    (&[127], 300, 127),
-    (&[128], 300, 128),
-    (&[129], 300, 129),
-    (&[299], 300, 299),
-    (&[200, 5], 300, 5),
+const CASES: [Case; 10] = [
+    (&[], 300, 300, 0, 300, 3),
+    (&[0], 300, 0, 1, 0, 3),
+    (&[127], 300, 127, 1, 127, 3),
+    (&[128], 300, 128, 1, 128, 3),
+    (&[299], 300, 299, 1, 299, 3),
+    (&[127, 128, 129], 300, 127, 3, 127, 3),
+    (&[200, 5, 201], 300, 5, 3, 5, 3),
+    (&[127, 128], 128, 127, 1, 127, 1),
+    (&[130], 130, 130, 0, 130, 2),
+    (&[0], 0, 0, 0, 0, 0),
 ];
 
 #[test]
-fn the_first_difference_ends_the_count(rt: HostRuntime) {
-    for (differing, limit, counted) in FIRST {
-        must_count(&rt, differing, limit, counted);
+fn two_images_are_compared(rt: HostRuntime) {
+    for (differing, compared, first_ones, sectors, first, calls) in CASES {
+        let mut shelf = two_images(&rt, 300, differing);
+        let counted = equal(&rt, &mut shelf, compared);
+        must(&rt, counted == Ok(first_ones), "another count");
+        let mut told = UNTOLD;
+        let found = difference(&rt, &mut shelf, compared, &mut told);
+        must(
+            &rt,
+            found == Ok(Difference { sectors, first }),
+            "another difference",
+        );
+        let all = told.sectors == compared && told.total == compared;
+        must(&rt, all && told.calls == calls, "told otherwise");
     }
 }
 
-#[test]
-fn a_limit_ends_the_count(rt: HostRuntime) {
-    for (limit, counted) in [(0, 0), (100, 100), (128, 128), (130, 130), (131, 130)] {
-        must_count(&rt, &[130], limit, counted);
-    }
-}
+const DEVICE: Result<u64, ShelfFault> = Err(ShelfFault::Device);
 
-fn end_the_count<H: Shelf>(rt: &impl Abort, shelf: &mut H) {
-    for (first, second, counted) in [
-        ("a", "b", 3),
-        ("b", "a", 3),
-        ("b", "b", 129),
-        ("a", "c", 0),
-        ("c", "a", 0),
-    ] {
-        let given = count(rt, shelf, first, second, 300);
-        must(rt, given == Ok(counted), "another count");
-    }
-}
-
-#[test]
-fn the_end_of_either_ends_the_count(rt: HostRuntime) {
-    end_the_count(&rt, &mut two_images(&rt, [3, 129], &[]));
-}
-
-// What a shelf gives whose reads fail from this one on. It reads each sector by itself, so that a
-// whole run takes 256 reads.
-fn counted_until(
-    rt: &(impl Abort + AllocGlobal),
-    differing: &[u16],
-    nth: u64,
-) -> Result<u64, ShelfFault> {
-    let shelf = two_images(rt, [300, 300], differing);
-    count(rt, &mut FaultShelf::stop_from(shelf, nth), "a", "b", 300)
-}
+// Which sectors differ, from which read on all fail, and how the count ends: nothing is read after
+// the run that differs. All sectors of both images take 600 reads.
+const FAILING: [(&[u16], u64, Result<u64, ShelfFault>); 5] = [
+    (&[], 1, DEVICE),
+    (&[], 129, DEVICE),
+    (&[], 257, DEVICE),
+    (&[], 600, DEVICE),
+    (&[127], 257, Ok(127)),
+];
 
 #[test]
 fn a_read_that_fails_is_told(rt: HostRuntime) {
-    for nth in [1, 129, 257] {
-        let told = counted_until(&rt, &[], nth);
-        must(&rt, told == Err(ShelfFault::Device), "not told");
+    for (differing, nth, counted) in FAILING {
+        let mut shelf = FaultShelf::stop_from(two_images(&rt, 300, differing), nth);
+        must(&rt, equal(&rt, &mut shelf, 300) == counted, "another count");
+        let mut shelf = FaultShelf::stop_from(shelf.into_inner(), nth);
+        let found = difference(&rt, &mut shelf, 300, &mut UNTOLD);
+        must(&rt, found == Err(ShelfFault::Device), "a difference");
     }
-    // Nothing is read after the run that differs.
-    must(
-        &rt,
-        counted_until(&rt, &[127], 257) == Ok(127),
-        "read behind",
-    );
+    let mut short = two_images(&rt, 200, &[]);
+    must(&rt, equal(&rt, &mut short, 300) == Ok(200), "another count");
+    let found = difference(&rt, &mut short, 300, &mut UNTOLD);
+    must(&rt, found == Err(ShelfFault::Range), "past the end");
 }

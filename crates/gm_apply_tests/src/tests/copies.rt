@@ -40,13 +40,6 @@ fn copy(rt: &impl Abort, first: u32, end: u32) -> [Intent; 1] {
     }]
 }
 
-fn must_have_copied<H: Shelf>(rt: &impl Abort, shelf: &mut H, sectors: u8) {
-    for place in 0..sectors {
-        must_hold(rt, shelf, "b", u64::from(place), place);
-    }
-    must_hold(rt, shelf, "b", u64::from(sectors), 0xee);
-}
-
 fn calls(reads: u64, writes: u64, written: u64) -> CallCounts {
     CallCounts {
         reads,
@@ -56,97 +49,60 @@ fn calls(reads: u64, writes: u64, written: u64) -> CallCounts {
     }
 }
 
-// What a copy of all sectors of a asks of the shelf: so many reads and writes, and so many sectors
-// in the writes. Then b holds them, and the sector after them is as it was.
-fn must_ask(rt: &(impl Abort + AllocGlobal), sectors: u8, differing: &[u8], asked: [u64; 3]) {
-    let mut shelf = CountingShelf::new(two_images(rt, sectors, differing));
-    copies(rt, &mut shelf, 0, u32::from(sectors));
-    must_have_copied(rt, &mut shelf.inner, sectors);
-    let [reads, writes, written] = asked;
-    must(
-        rt,
-        shelf.calls == calls(reads, writes, written),
-        "other calls",
-    );
-}
+// What a copy asks of the shelf: of how many sectors, which of them differ, from which place on and
+// up to which; so many reads and writes, and so many sectors in the writes.
+type Case = (u8, &'static [u8], [u32; 2], [u64; 3]);
 
-// How many sectors, which of them differ, and what is asked.
-type Case = (u8, &'static [u8], [u64; 3]);
-
-const EQUAL: [Case; 4] = [
-    (1, &[], [2, 0, 0]),
-    (5, &[], [2, 0, 0]),
-    (128, &[], [2, 0, 0]),
-    (129, &[], [4, 0, 0]),
+// Equal sectors are not written; a stretch that differs is at once; an equal sector parts two
+// stretches, and so does the end of a run: 131 sectors are a run of 128 and one of 3. Neither what
+// stands before the first place nor what stands from the end on is copied, and an empty copy syncs.
+const CASES: [Case; 19] = [
+    (1, &[], [0, 1], [2, 0, 0]),
+    (5, &[], [0, 5], [2, 0, 0]),
+    (128, &[], [0, 128], [2, 0, 0]),
+    (129, &[], [0, 129], [4, 0, 0]),
+    (1, &[0], [0, 1], [2, 1, 1]),
+    (128, &[0], [0, 128], [2, 1, 1]),
+    (128, &[127], [0, 128], [2, 1, 1]),
+    (5, &[1, 2, 3], [0, 5], [2, 1, 3]),
+    (5, &[0, 1, 2, 3, 4], [0, 5], [2, 1, 5]),
+    (3, &[0, 2], [0, 3], [2, 2, 2]),
+    (7, &[0, 1, 3, 4, 5], [0, 7], [2, 2, 5]),
+    (7, &[1, 3, 6], [0, 7], [2, 3, 3]),
+    (131, &[127, 128], [0, 131], [4, 2, 2]),
+    (131, &[130], [0, 131], [4, 1, 1]),
+    (134, &[1, 2, 130, 133], [2, 133], [4, 2, 2]),
+    (134, &[1, 2, 3, 4], [4, 134], [4, 1, 1]),
+    (3, &[1], [1, 1], [0, 0, 0]),
+    (3, &[1], [2, 1], [0, 0, 0]),
+    (3, &[1], [3, 3], [0, 0, 0]),
 ];
 
-#[test]
-fn equal_sectors_are_not_written(rt: HostRuntime) {
-    for (sectors, differing, asked) in EQUAL {
-        must_ask(&rt, sectors, differing, asked);
+// Each sector of b is that of a, but for those that differ and aren't copied.
+fn must_have_copied<H: Shelf>(rt: &impl Abort, shelf: &mut H, case: Case) {
+    let (sectors, differing, [first, end], _) = case;
+    for place in 0..sectors {
+        let is_left = u32::from(place) < first || u32::from(place) >= end;
+        let byte = if is_left && differing.contains(&place) {
+            0xff
+        } else {
+            place
+        };
+        must_hold(rt, shelf, "b", u64::from(place), byte);
     }
-}
-
-const ONE_STRETCH: [Case; 5] = [
-    (1, &[0], [2, 1, 1]),
-    (128, &[0], [2, 1, 1]),
-    (128, &[127], [2, 1, 1]),
-    (5, &[1, 2, 3], [2, 1, 3]),
-    (5, &[0, 1, 2, 3, 4], [2, 1, 5]),
-];
-
-#[test]
-fn a_stretch_that_differs_is_written_at_once(rt: HostRuntime) {
-    for (sectors, differing, asked) in ONE_STRETCH {
-        must_ask(&rt, sectors, differing, asked);
-    }
-}
-
-const STRETCHES: [Case; 3] = [
-    (3, &[0, 2], [2, 2, 2]),
-    (7, &[0, 1, 3, 4, 5], [2, 2, 5]),
-    (7, &[1, 3, 6], [2, 3, 3]),
-];
-
-#[test]
-fn an_equal_sector_parts_two_stretches(rt: HostRuntime) {
-    for (sectors, differing, asked) in STRETCHES {
-        must_ask(&rt, sectors, differing, asked);
-    }
-}
-
-// A stretch ends with its run: 131 sectors are a run of 128 and one of 3, and 250 are one of 128
-// and one of 122.
-#[test]
-fn runs_follow_one_another(rt: HostRuntime) {
-    must_ask(&rt, 131, &[127, 128], [4, 2, 2]);
-    must_ask(&rt, 131, &[130], [4, 1, 1]);
-    let mut all = [0; 250];
-    for place in 0..250u8 {
-        all[place as usize] = place;
-    }
-    must_ask(&rt, 250, &all, [4, 2, 250]);
-}
-
-// Neither what stands before its first place nor what stands from its end on is copied.
-#[test]
-fn a_copy_keeps_to_its_places(rt: HostRuntime) {
-    let mut shelf = CountingShelf::new(two_images(&rt, 134, &[1, 2, 130, 133]));
-    copies(&rt, &mut shelf, 2, 133);
-    must(&rt, shelf.calls == calls(4, 2, 2), "other calls");
-    for (place, byte) in [(1, 0xff), (2, 2), (130, 130), (133, 0xff)] {
-        must_hold(&rt, &mut shelf.inner, "b", place, byte);
-    }
+    must_hold(rt, shelf, "b", u64::from(sectors), 0xee);
 }
 
 #[test]
-fn an_empty_copy_syncs(rt: HostRuntime) {
-    let mut shelf = CountingShelf::new(two_images(&rt, 3, &[1]));
-    copies(&rt, &mut shelf, 1, 1);
-    must(&rt, shelf.calls == calls(0, 0, 0), "other calls");
-    copies(&rt, &mut shelf, 2, 1);
-    must(&rt, shelf.calls.syncs == 2, "not synced again");
-    must_hold(&rt, &mut shelf.inner, "b", 1, 0xff);
+fn a_copy_writes_what_differs_at_once(rt: HostRuntime) {
+    for case in CASES {
+        let (sectors, differing, [first, end], [reads, writes, written]) = case;
+        let mut shelf = CountingShelf::new(two_images(&rt, sectors, differing));
+        copies(&rt, &mut shelf, first, end);
+        let asked = calls(reads, writes, written);
+        must(&rt, shelf.calls == asked, "other calls");
+        must_have_copied(&rt, &mut shelf.inner, case);
+    }
 }
 
 // What a crash by this pick leaves of the second sector of b.

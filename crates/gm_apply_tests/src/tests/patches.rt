@@ -62,27 +62,22 @@ fn stopped_at(rt: &(impl Abort + AllocGlobal), nth: u64) -> MemShelf {
     stops.into_inner()
 }
 
-// The dirt is synced before the bytes are written, and the bytes before the metadata.
+// The dirt is synced before the bytes are written, and the bytes before the metadata. An image is
+// dirty from the write of the dirt on, if a crash keeps it, to that of the metadata.
 #[test]
 fn a_patch_that_stops_leads_on(rt: HostRuntime) {
     for nth in 1..CALLS + 2 {
         let shelf = stopped_at(&rt, nth);
         for pick in 0..2u32 {
             let mut image = shelf.crash_image(&[pick]).expect(&rt, "no memory");
+            let dirty = nth > 2 && nth <= CALLS;
+            must(
+                &rt,
+                pick == 1 || is_dirty(&rt, &mut image) == dirty,
+                "another mark",
+            );
             claims_what_it_holds(&rt, &mut image, nth);
             leads_on(&rt, &mut image);
         }
-    }
-}
-
-// What is dirty on the way: from the write of the dirt on, if a crash keeps it, to that of the
-// metadata.
-#[test]
-fn it_is_dirty_while_the_data_change(rt: HostRuntime) {
-    for nth in 1..CALLS + 2 {
-        let shelf = stopped_at(&rt, nth);
-        let mut image = shelf.crash_image(&[0]).expect(&rt, "no memory");
-        let dirty = nth > 2 && nth <= CALLS;
-        must(&rt, is_dirty(&rt, &mut image) == dirty, "another mark");
     }
 }
