@@ -1,4 +1,4 @@
-//! Each kind of loss, on disks in memory.
+//! Each kind of loss, on disks in memory, and each read of its images that fails.
 
 use gm_apply::Watch;
 use gm_commands::{BalanceWord, Command, NewComponent, NewMirror, Providers, Slice};
@@ -42,31 +42,20 @@ fn component(rt: &impl Abort, provider: &str, did: u32, disk: Disk) -> Component
     }
 }
 
-// gm0 on a.img, b.img and c.img, whose data stand so.
-fn state_of(rt: &(impl Abort + AllocGlobal), disks: [Disk; 3]) -> State {
-    let [a, b, c] = disks;
+// gm0 on a.img and b.img, which have its data, and on c.img, which is being filled.
+fn state(rt: &(impl Abort + AllocGlobal)) -> State {
+    let filled = Disk::Copying {
+        forced: false,
+        held: 1,
+    };
     let components = [
-        component(rt, "a.img", 1, a),
-        component(rt, "b.img", 2, b),
-        component(rt, "c.img", 3, c),
+        component(rt, "a.img", 1, Disk::InSync),
+        component(rt, "b.img", 2, Disk::InSync),
+        component(rt, "c.img", 3, filled),
     ];
     let mirrors = [mirror(rt, "gm0", 7)].to_vec(rt.alloc());
     let components = components.to_vec(rt.alloc()).expect(rt, "no memory");
     State::new(mirrors.expect(rt, "no memory"), components).expect(rt, "no state")
-}
-
-const FILLED: Disk = Disk::Copying {
-    forced: false,
-    held: 1,
-};
-
-fn state(rt: &(impl Abort + AllocGlobal)) -> State {
-    state_of(rt, [Disk::InSync, Disk::InSync, FILLED])
-}
-
-// What the image of a component says as it is registered.
-fn registered(rt: &impl Abort, provider: &str, did: u32, disk: Disk) -> [u8; 512] {
-    encode(&metadata(&mirror(rt, "gm0", 7), &component(rt, provider, did, disk)))
 }
 
 const ZEROS: [u8; 512] = [0; 512];
@@ -108,15 +97,40 @@ fn add(
     shelf.add(provider, sectors).expect(rt, "no memory");
 }
 
-// A shelf with one image.
-fn shelf_of(
-    rt: &(impl Abort + AllocGlobal),
-    name: &str,
-    count: usize,
-    held: &[(usize, [u8; 512])],
-) -> MemShelf {
+// Metadata of gm1 with this did and syncid.
+fn said(rt: &impl Abort, did: u32, syncid: u32) -> [u8; 512] {
+    let mut said = metadata(
+        &mirror(rt, "gm1", 5),
+        &component(rt, "x.img", did, Disk::InSync),
+    );
+    said.syncid = syncid;
+    encode(&said)
+}
+
+// What a.img says as it is registered.
+fn registered(rt: &impl Abort) -> [u8; 512] {
+    encode(&metadata(
+        &mirror(rt, "gm0", 7),
+        &component(rt, "a.img", 1, Disk::InSync),
+    ))
+}
+
+// a.img as it is registered; d.img and e.img of gm1, with e.img newer; i.img, which is blank; j.img
+// with data in sector 200; and k.img, a database with data in its last sector.
+fn images(rt: &(impl Abort + AllocGlobal)) -> MemShelf {
     let mut shelf = MemShelf::new(rt.alloc());
-    add(rt, &mut shelf, name, count, held);
+    add(rt, &mut shelf, "a.img", 4, &[(3, registered(rt))]);
+    add(rt, &mut shelf, "d.img", 4, &[(3, said(rt, 1, 3))]);
+    add(rt, &mut shelf, "e.img", 4, &[(3, said(rt, 2, 4))]);
+    add(rt, &mut shelf, "i.img", 4, &[]);
+    add(rt, &mut shelf, "j.img", 300, &[(200, one_byte())]);
+    add(
+        rt,
+        &mut shelf,
+        "k.img",
+        4,
+        &[(0, database()), (3, one_byte())],
+    );
     shelf
 }
 
@@ -132,25 +146,6 @@ impl Watch for Told {
         self.sectors = sectors;
         self.total = total;
     }
-}
-
-fn unheard() -> Told {
-    Told {
-        sectors: 0,
-        total: 0,
-    }
-}
-
-// Whether just these losses are told, in this order.
-fn are_told(
-    rt: &(impl Abort + AllocGlobal),
-    shelf: &mut MemShelf,
-    state: &State,
-    command: &Command,
-    expected: &[Loss],
-) -> bool {
-    let told = losses(rt.alloc(), shelf, state, command, &mut unheard());
-    told.expect(rt, "not told").as_slice() == expected
 }
 
 fn labelled(rt: &impl Abort, name: &str, provider: &str) -> Command {
@@ -179,514 +174,128 @@ fn inserted(rt: &impl Abort, name: &str, provider: &str) -> Command {
     })
 }
 
-fn providers(rt: &(impl Abort + AllocGlobal), names: &[&str]) -> Providers {
-    let mut named = Vec::new(rt.alloc());
-    for name in names {
-        named.push(label(rt, name)).expect(rt, "no memory");
-    }
-    Providers::new(named).expect(rt, "none")
+fn providers(rt: &(impl Abort + AllocGlobal), name: &str) -> Providers {
+    let named = [label(rt, name)].to_vec(rt.alloc());
+    Providers::new(named.expect(rt, "no memory")).expect(rt, "none")
 }
 
-fn lost(rt: &(impl Abort + AllocGlobal), name: &str, names: &[&str]) -> Command {
-    Command::Lost {
-        name: label(rt, name),
-        providers: providers(rt, names),
-    }
+// What is told of a command, what the watch is told at last, and how many reads that takes.
+#[derive(Clone, Copy)]
+struct Case<'a> {
+    command: &'a Command,
+    losses: &'a [Loss],
+    told: [u64; 2],
+    reads: u64,
 }
 
-fn adopted(rt: &(impl Abort + AllocGlobal), name: &str, names: &[&str]) -> Command {
-    Command::Adopt {
-        name: label(rt, name),
-        providers: providers(rt, names),
-    }
-}
-
-// What is told of a command on an image of so many sectors, which holds these.
-fn tells_on(
+// Whether just these losses are told, in this order, and just that to the watch.
+fn are_told<H: Shelf>(
     rt: &(impl Abort + AllocGlobal),
+    shelf: &mut H,
     state: &State,
-    command: &Command,
-    count: usize,
-    held: &[(usize, [u8; 512])],
-    expected: &[Loss],
-) {
-    let mut shelf = shelf_of(rt, "d.img", count, held);
-    assert!(rt;
-        are_told(rt, &mut shelf, state, command, expected),
-        "of {count}"
-    );
+    case: Case<'_>,
+) -> Result<bool, ShelfFault> {
+    let mut told = Told {
+        sectors: 0,
+        total: 0,
+    };
+    let list = losses(rt.alloc(), shelf, state, case.command, &mut told)?;
+    Ok(list.as_slice() == case.losses && [told.sectors, told.total] == case.told)
 }
 
-#[test]
-fn a_label_writes_over_a_last_sector(rt: HostRuntime) {
-    let state = state(&rt);
-    let provider = label(&rt, "d.img");
-    let says = registered(&rt, "d.img", 4, Disk::InSync);
-    let command = labelled(&rt, "gm1", "d.img");
-    tells_on(&rt, &state, &command, 4, &[(0, ZEROS), (3, ZEROS)], &[]);
-    tells_on(&rt, &state, &command, 4, &[(0, ZEROS), (2, [9; 512])], &[]);
-    tells_on(
-        &rt,
-        &state,
-        &command,
-        4,
-        &[(0, ZEROS), (3, one_byte())],
-        &[Loss::LastSector { provider }],
-    );
-    tells_on(
-        &rt,
-        &state,
-        &command,
-        4,
-        &[(0, database()), (3, ZEROS)],
-        &[Loss::Database { provider }],
-    );
-    tells_on(
-        &rt,
-        &state,
-        &command,
-        4,
-        &[(0, database()), (3, [9; 512])],
-        &[Loss::Database { provider }, Loss::LastSector { provider }],
-    );
-    tells_on(
-        &rt,
-        &state,
-        &command,
-        4,
-        &[(1, database()), (3, ZEROS)],
-        &[],
-    );
-    tells_on(&rt, &state, &command, 4, &[(0, database()), (3, says)], &[]);
-    tells_on(
-        &rt,
-        &state,
-        &command,
-        1,
-        &[(0, one_byte()), (0, one_byte())],
-        &[],
-    );
-    tells_on(&rt, &state, &command, 0, &[(0, ZEROS), (0, ZEROS)], &[]);
-}
-
-// The rules refuse each of these: a name that is registered, an image that isn't there, and one of
-// a component, which is blank here.
-#[test]
-fn nothing_is_told_of_a_label_that_is_refused(rt: HostRuntime) {
-    let state = state(&rt);
-    let mut shelf = shelf_of(&rt, "d.img", 4, &[(0, database()), (3, [9; 512])]);
-    add(&rt, &mut shelf, "a.img", 4, &[(3, one_byte())]);
-    for command in [
-        labelled(&rt, "gm0", "d.img"),
-        labelled(&rt, "gm1", "e.img"),
-        labelled(&rt, "gm1", "a.img"),
-        inserted(&rt, "gm1", "d.img"),
-        inserted(&rt, "gm0", "e.img"),
-        inserted(&rt, "gm0", "a.img"),
-    ] {
-        assert!(rt; are_told(&rt, &mut shelf, &state, &command, &[]));
-    }
-}
-
-#[test]
-fn an_insert_writes_over_data(rt: HostRuntime) {
-    let state = state(&rt);
-    let provider = label(&rt, "d.img");
-    let command = inserted(&rt, "gm0", "d.img");
-    let says = registered(&rt, "d.img", 4, Disk::InSync);
-    tells_on(&rt, &state, &command, 300, &[(0, ZEROS), (0, ZEROS)], &[]);
-    tells_on(
-        &rt,
-        &state,
-        &command,
-        300,
-        &[(200, one_byte()), (299, [9; 512])],
-        &[Loss::Data {
-            provider,
-            place: 200,
-        }],
-    );
-    tells_on(
-        &rt,
-        &state,
-        &command,
-        300,
-        &[(298, one_byte()), (299, ZEROS)],
-        &[Loss::Data {
-            provider,
-            place: 298,
-        }],
-    );
-    tells_on(
-        &rt,
-        &state,
-        &command,
-        300,
-        &[(0, ZEROS), (299, one_byte())],
-        &[Loss::Data {
-            provider,
-            place: 299,
-        }],
-    );
-    tells_on(
-        &rt,
-        &state,
-        &command,
-        300,
-        &[(0, one_byte()), (299, ZEROS)],
-        &[Loss::Data { provider, place: 0 }],
-    );
-    tells_on(
-        &rt,
-        &state,
-        &command,
-        300,
-        &[(127, one_byte()), (128, ZEROS)],
-        &[Loss::Data {
-            provider,
-            place: 127,
-        }],
-    );
-    tells_on(
-        &rt,
-        &state,
-        &command,
-        300,
-        &[(0, database()), (9, [9; 512])],
-        &[Loss::Database { provider }],
-    );
-    tells_on(
-        &rt,
-        &state,
-        &command,
-        300,
-        &[(9, [9; 512]), (299, says)],
-        &[],
-    );
-}
-
-#[test]
-fn a_watch_is_told_of_each_run_of_zeros(rt: HostRuntime) {
-    let state = state(&rt);
-    let command = inserted(&rt, "gm0", "d.img");
-    for (place, sectors, total) in [(300, 300, 300), (299, 256, 300), (128, 128, 300), (0, 0, 0)] {
-        let mut shelf = shelf_of(&rt, "d.img", 300, &[(place, one_byte())]);
-        let mut told = unheard();
-        let list = losses(rt.alloc(), &mut shelf, &state, &command, &mut told);
-        assert!(rt; list.is_ok(), "not told");
+// It is told so unless one of its reads fails.
+fn is_told(rt: &(impl Abort + AllocGlobal), state: &State, case: Case<'_>) {
+    for nth in 1..case.reads + 2 {
+        let mut shelf = FaultShelf::stop_from(images(rt), nth);
+        let wanted = if nth > case.reads {
+            Ok(true)
+        } else {
+            Err(ShelfFault::Device)
+        };
         assert!(rt;
-            told.sectors == sectors && told.total == total,
-            "of {place}"
+            are_told(rt, &mut shelf, state, case) == wanted,
+            "at {nth} of {}",
+            case.reads
         );
     }
 }
 
-// What is told of images that are given up as lost.
-fn tells_of_lost(
-    rt: &(impl Abort + AllocGlobal),
-    shelf: &mut MemShelf,
-    name: &str,
-    names: &[&str],
-    expected: &[Loss],
-) {
-    let command = lost(rt, name, names);
-    assert!(rt;
-        are_told(rt, shelf, &state(rt), &command, expected),
-        "of {name}"
-    );
-}
-
+// Of a label or a lost image two reads or one are made; of an insert, for each run of 128 sectors,
+// as many as it has; of an adoption one of each image.
 #[test]
-fn a_lost_image_may_be_intact(rt: HostRuntime) {
+fn each_loss_is_told_unless_a_read_fails(rt: HostRuntime) {
     let state = state(&rt);
-    let [a, b] = ["a.img", "b.img"].map(|name| label(&rt, name));
-    let intact = [Loss::Intact { provider: a }, Loss::Intact { provider: b }];
-    let mut shelf = shelf_of(
-        &rt,
-        "a.img",
-        4,
-        &[(3, registered(&rt, "a.img", 1, Disk::InSync))],
-    );
-    add(
-        &rt,
-        &mut shelf,
-        "b.img",
-        4,
-        &[(3, registered(&rt, "b.img", 2, Disk::InSync))],
-    );
-    add(
-        &rt,
-        &mut shelf,
-        "c.img",
-        4,
-        &[(3, registered(&rt, "c.img", 3, Disk::InSync))],
-    );
-    tells_of_lost(&rt, &mut shelf, "gm0", &["b.img", "a.img"], &intact);
-    tells_of_lost(
-        &rt,
-        &mut shelf,
-        "gm0",
-        &["b.img", "c.img"],
-        &[Loss::Intact { provider: b }],
-    );
-    tells_of_lost(&rt, &mut shelf, "gm0", &["c.img"], &[]);
-    tells_of_lost(&rt, &mut shelf, "gm0", &["d.img"], &[]);
-    tells_of_lost(&rt, &mut shelf, "gm1", &["a.img"], &[]);
-    let mut shelf = shelf_of(
-        &rt,
-        "a.img",
-        5,
-        &[(4, registered(&rt, "a.img", 1, Disk::InSync))],
-    );
-    let command = lost(&rt, "gm0", &["a.img", "b.img"]);
-    assert!(rt;
-        are_told(&rt, &mut shelf, &state, &command, &[]),
-        "in another size"
-    );
-}
-
-// Metadata of gm1, with this mid, did, genid and syncid.
-fn said(rt: &impl Abort, mid: u32, did: u32, genid: u32, syncid: u32) -> Metadata {
-    let mut said = metadata(
-        &mirror(rt, "gm1", mid),
-        &component(rt, "x.img", did, Disk::InSync),
-    );
-    said.genid = genid;
-    said.syncid = syncid;
-    said
-}
-
-// d.img and e.img of gm1, with e.img newer by syncid; f.img is BROKEN, g.img of another mid, and
-// h.img INACTIVE.
-fn found(rt: &(impl Abort + AllocGlobal)) -> MemShelf {
-    let mut idle = said(rt, 5, 5, 1, 9);
-    idle.dflags.inactive = true;
-    let mut shelf = shelf_of(rt, "d.img", 4, &[(3, encode(&said(rt, 5, 1, 2, 3)))]);
-    add(
-        rt,
-        &mut shelf,
-        "e.img",
-        4,
-        &[(3, encode(&said(rt, 5, 2, 2, 4)))],
-    );
-    add(
-        rt,
-        &mut shelf,
-        "f.img",
-        4,
-        &[(3, encode(&said(rt, 5, 3, 1, 9)))],
-    );
-    add(
-        rt,
-        &mut shelf,
-        "g.img",
-        4,
-        &[(3, encode(&said(rt, 6, 4, 9, 9)))],
-    );
-    add(rt, &mut shelf, "h.img", 4, &[(3, encode(&idle))]);
-    shelf
-}
-
-fn left(provider: Label, newer: bool) -> Loss {
-    Loss::Left { provider, newer }
-}
-
-// What is told of images that are adopted.
-fn tells_of_adopted(
-    rt: &(impl Abort + AllocGlobal),
-    shelf: &mut MemShelf,
-    name: &str,
-    names: &[&str],
-    expected: &[Loss],
-) {
-    let command = adopted(rt, name, names);
-    assert!(rt;
-        are_told(rt, shelf, &state(rt), &command, expected),
-        "of {name}"
-    );
-}
-
-#[test]
-fn an_adoption_leaves_images(rt: HostRuntime) {
-    let [d, e, h] = ["d.img", "e.img", "h.img"].map(|name| label(&rt, name));
-    let mut shelf = found(&rt);
-    tells_of_adopted(
-        &rt,
-        &mut shelf,
-        "gm1",
-        &["d.img"],
-        &[left(e, true), left(h, false)],
-    );
-    tells_of_adopted(
-        &rt,
-        &mut shelf,
-        "gm1",
-        &["e.img"],
-        &[left(d, false), left(h, false)],
-    );
-    tells_of_adopted(&rt, &mut shelf, "gm1", &["d.img", "e.img", "h.img"], &[]);
-    tells_of_adopted(
-        &rt,
-        &mut shelf,
-        "gm1",
-        &["f.img"],
-        &[left(d, true), left(e, true), left(h, false)],
-    );
-    tells_of_adopted(
-        &rt,
-        &mut shelf,
-        "gm1",
-        &["f.img", "d.img"],
-        &[left(e, true), left(h, false)],
-    );
-    tells_of_adopted(&rt, &mut shelf, "gm1", &["g.img"], &[]);
-    tells_of_adopted(&rt, &mut shelf, "gm1", &["d.img", "g.img"], &[]);
-    tells_of_adopted(&rt, &mut shelf, "gm1", &["d.img", "i.img"], &[]);
-    tells_of_adopted(&rt, &mut shelf, "gm2", &["d.img"], &[]);
-    tells_of_adopted(&rt, &mut shelf, "gm0", &["d.img"], &[]);
-}
-
-fn removed(rt: &impl Abort, name: &str, provider: &str) -> [Command; 2] {
-    let name = label(rt, name);
-    let provider = label(rt, provider);
-    [
-        Command::Remove { name, provider },
-        Command::Deactivate { name, provider },
-    ]
-}
-
-// What is told of a component that is taken out, of gm0 whose components stand so.
-fn tells_of_removed(
-    rt: &(impl Abort + AllocGlobal),
-    disks: [Disk; 3],
-    name: &str,
-    provider: &str,
-    expected: &[Loss],
-) {
-    let mut shelf = MemShelf::new(rt.alloc());
-    let state = state_of(rt, disks);
-    for command in removed(rt, name, provider) {
-        assert!(rt;
-            are_told(rt, &mut shelf, &state, &command, expected),
-            "of {provider}"
-        );
-    }
-}
-
-#[test]
-fn a_component_may_leave_one_copy(rt: HostRuntime) {
-    let a = Loss::OnlyCopy {
-        provider: label(&rt, "a.img"),
+    let [a, b, e, j, k] = ["a.img", "b.img", "e.img", "j.img", "k.img"].map(|name| label(
+        &rt, name,
+    ));
+    let (gm0, gm1) = (label(&rt, "gm0"), label(&rt, "gm1"));
+    let over_both = [
+        Loss::Database { provider: k },
+        Loss::LastSector { provider: k },
+    ];
+    let over_data = [Loss::Data {
+        provider: j,
+        place: 200,
+    }];
+    let left = [Loss::Left {
+        provider: e,
+        newer: true,
+    }];
+    let lost = Command::Lost {
+        name: gm0,
+        providers: providers(&rt, "a.img"),
     };
-    let b = Loss::OnlyCopy {
-        provider: label(&rt, "b.img"),
+    let adopt = Command::Adopt {
+        name: gm1,
+        providers: providers(&rt, "d.img"),
     };
-    tells_of_removed(
-        &rt,
-        [Disk::InSync, Disk::InSync, FILLED],
-        "gm0",
-        "a.img",
-        &[b],
-    );
-    tells_of_removed(
-        &rt,
-        [Disk::InSync, Disk::InSync, FILLED],
-        "gm0",
-        "b.img",
-        &[a],
-    );
-    tells_of_removed(
-        &rt,
-        [Disk::InSync, Disk::InSync, FILLED],
-        "gm0",
-        "c.img",
-        &[],
-    );
-    tells_of_removed(
-        &rt,
-        [Disk::InSync, Disk::InSync, FILLED],
-        "gm1",
-        "a.img",
-        &[],
-    );
-    tells_of_removed(
-        &rt,
-        [Disk::InSync, Disk::InSync, FILLED],
-        "gm0",
-        "d.img",
-        &[],
-    );
-    tells_of_removed(
-        &rt,
-        [Disk::InSync, Disk::InSync, Disk::InSync],
-        "gm0",
-        "a.img",
-        &[],
-    );
-    tells_of_removed(
-        &rt,
-        [Disk::InSync, Disk::InSync, Disk::Inactive],
-        "gm0",
-        "a.img",
-        &[],
-    );
-    tells_of_removed(&rt, [Disk::InSync, FILLED, FILLED], "gm0", "a.img", &[]);
-    tells_of_removed(&rt, [Disk::InSync, FILLED, FILLED], "gm0", "b.img", &[]);
-}
-
-// What is told of a mirror that is destroyed.
-fn tells_of_destroyed(rt: &(impl Abort + AllocGlobal), name: &str, expected: &[Loss]) {
-    let mut shelf = MemShelf::new(rt.alloc());
-    let command = Command::Destroy {
-        name: label(rt, name),
+    let deactivate = Command::Deactivate {
+        name: gm0,
+        provider: a,
     };
-    assert!(rt;
-        are_told(rt, &mut shelf, &state(rt), &command, expected),
-        "of {name}"
-    );
-}
-
-#[test]
-fn a_mirror_is_destroyed_with_its_components(rt: HostRuntime) {
-    let all = Loss::Mirror { components: 3 };
-    tells_of_destroyed(&rt, "gm0", &[all]);
-    tells_of_destroyed(&rt, "gm1", &[]);
-}
-
-#[test]
-fn other_commands_take_nothing_away(rt: HostRuntime) {
-    let state = state(&rt);
-    let mut shelf = found(&rt);
-    let name = label(&rt, "gm0");
-    let provider = label(&rt, "a.img");
-    for command in [
-        Command::Activate { name, provider },
-        Command::Forget { name },
-        Command::Rebuild { name, provider },
-        Command::Clear { provider },
-        Command::Advance { name, provider },
+    for (command, losses, told, reads) in [
+        (&labelled(&rt, "gm9", "i.img"), [].as_slice(), [0, 0], 2u64),
+        (
+            &labelled(&rt, "gm9", "k.img"),
+            over_both.as_slice(),
+            [0, 0],
+            2,
+        ),
+        (&inserted(&rt, "gm0", "i.img"), [].as_slice(), [4, 4], 6),
+        (
+            &inserted(&rt, "gm0", "j.img"),
+            over_data.as_slice(),
+            [128, 300],
+            258,
+        ),
+        (
+            &inserted(&rt, "gm0", "k.img"),
+            [Loss::Database { provider: k }].as_slice(),
+            [0, 0],
+            2,
+        ),
+        (&lost, [Loss::Intact { provider: a }].as_slice(), [0, 0], 1),
+        (&adopt, left.as_slice(), [0, 0], 6),
+        (
+            &deactivate,
+            [Loss::OnlyCopy { provider: b }].as_slice(),
+            [0, 0],
+            0,
+        ),
+        (
+            &Command::Destroy { name: gm0 },
+            [Loss::Mirror { components: 3 }].as_slice(),
+            [0, 0],
+            0,
+        ),
+        (&Command::Forget { name: gm0 }, [].as_slice(), [0, 0], 0),
     ] {
-        assert!(rt; are_told(&rt, &mut shelf, &state, &command, &[]));
-    }
-}
-
-#[test]
-fn an_image_that_cannot_be_read_is_a_disk_fault(rt: HostRuntime) {
-    let state = state(&rt);
-    for (command, reads) in [
-        (labelled(&rt, "gm9", "i.img"), 2u64),
-        (inserted(&rt, "gm0", "i.img"), 6),
-        (lost(&rt, "gm0", &["a.img"]), 1),
-        (adopted(&rt, "gm1", &["d.img"]), 7),
-    ] {
-        for nth in 1u64..9 {
-            let mut shelf = found(&rt);
-            add(&rt, &mut shelf, "a.img", 4, &[]);
-            add(&rt, &mut shelf, "i.img", 4, &[]);
-            let mut shelf = FaultShelf::stop_from(shelf, nth);
-            let told = losses(rt.alloc(), &mut shelf, &state, &command, &mut unheard());
-            let failed = told.is_err_and(|fault| fault == ShelfFault::Device);
-            assert!(rt; failed == (nth <= reads), "at {nth} of {reads}");
-        }
+        let case = Case {
+            command,
+            losses,
+            told,
+            reads,
+        };
+        is_told(&rt, &state, case);
     }
 }

@@ -1,0 +1,169 @@
+# What a command would take away, as `do` says it: each loss, in order, beside what loses nothing, and what is refused.
+. "$helpers/bench.sh"
+
+forced='--force carries it out all the same'
+
+# Whether the command of a row, over that bench as it was kept, is answered so under the key k9: `ok`, `refused` with its
+# number, or `lost` if it isn't done, with a line for each loss.
+expect_row() {
+    at_bench do k9 $1
+    answer=$(sed 's/^k9 //; s/^ok .*/ok/' "$work/output")
+    : >"$work/wanted-losses"
+    case $2 in
+        lost)
+            [ "$answer" != 'not done' ] || answer=lost
+            printf '%s\n' "$3" | tr ';' '\n' | sed 's/^/k9: /' >"$work/wanted-losses"
+            echo "k9: $forced" >>"$work/wanted-losses"
+            ;;
+        refused*) : >"$work/complaints" ;;
+    esac
+    [ "$answer" = "$2" ] && cmp -s "$work/complaints" "$work/wanted-losses" ||
+        wrong=${wrong:-"'$1' was answered '$(cat "$work/output" "$work/complaints")', and not '$2' with '$3'"}
+}
+
+told_wrong() {
+    [ -z "$wrong" ] && pass "$1" || fail "$1" "$wrong"
+}
+
+# A list of rows over an image d.img: how many sectors it has, bytes at places of it, the command, its answer, and what is
+# lost. All its other bytes are zeros.
+expect_over_image() {
+    cat >"$work/list"
+    wrong=
+    while IFS='|' read -r sectors bytes words answer lost; do
+        put_back
+        head -c $((512 * sectors)) /dev/zero >"$bench/images/d.img"
+        set -- $bytes
+        while [ $# -gt 1 ]; do
+            damage "$bench/images/d.img" "$1" "$2"
+            shift 2
+        done
+        expect_row "$words" "$answer" "$lost"
+    done <"$work/list"
+    told_wrong "$title"
+}
+
+# A list of rows over that bench: the command, its answer, and what is lost.
+expect_over_bench() {
+    cat >"$work/list"
+    wrong=
+    while IFS='|' read -r words answer lost; do
+        put_back
+        expect_row "$words" "$answer" "$lost"
+    done <"$work/list"
+    told_wrong "$title"
+}
+
+# ---- images that are written over
+
+# gm0 has a.img and b.img, which are ACTIVE; c.img is blank.
+fresh_bench taken
+put_image "$bench/images/c.img" c bare
+batch "$label${insert}k3 advance gm0 b.img\n"
+keep_bench
+title='a label writes over the last sector, and makes a database unreadable'
+expect_over_image <<'END'
+4||label --mid 9 --did 1 gm1 d.img|ok|
+4|1024 x|label --mid 9 --did 1 gm1 d.img|ok|
+4|1536 x|label --mid 9 --did 1 gm1 d.img|lost|d.img holds data in its last sector: lengthen it by truncate -s +512
+4|2047 x|label --mid 9 --did 1 gm1 d.img|lost|d.img holds data in its last sector: lengthen it by truncate -s +512
+4|0 SQLite\040format\0403\000|label --mid 9 --did 1 gm1 d.img|lost|d.img is a database of SQLite, a registry perhaps
+4|0 SQLite\040format\0403\000 1536 x|label --mid 9 --did 1 gm1 d.img|lost|d.img is a database of SQLite, a registry perhaps;d.img holds data in its last sector: lengthen it by truncate -s +512
+4|512 SQLite\040format\0403\000|label --mid 9 --did 1 gm1 d.img|ok|
+4|0 SQLite\040format\0404\000|label --mid 9 --did 1 gm1 d.img|ok|
+1|0 x|label --mid 9 --did 1 gm1 d.img|refused 28|
+0||label --mid 9 --did 1 gm1 d.img|refused 28|
+END
+title='an insert writes over all data, of which the first is told'
+expect_over_image <<'END'
+300||insert --did 9 gm0 d.img|ok|
+300|102400 x 153088 x|insert --did 9 gm0 d.img|lost|d.img holds data, first in sector 200: a sync writes over all of it
+300|153087 x|insert --did 9 gm0 d.img|lost|d.img holds data, first in sector 298: a sync writes over all of it
+300|153088 x|insert --did 9 gm0 d.img|lost|d.img holds data, first in sector 299: a sync writes over all of it
+300|0 x|insert --did 9 gm0 d.img|lost|d.img holds data, first in sector 0: a sync writes over all of it
+300|65024 x|insert --did 9 gm0 d.img|lost|d.img holds data, first in sector 127: a sync writes over all of it
+300|65536 x|insert --did 9 gm0 d.img|lost|d.img holds data, first in sector 128: a sync writes over all of it
+300|0 SQLite\040format\0403\000 4608 x|insert --did 9 gm0 d.img|lost|d.img is a database of SQLite, a registry perhaps
+END
+title='nothing is told of what is refused for its mirror or its image'
+expect_over_image <<'END'
+4|1536 x|label --mid 9 --did 1 gm0 d.img|refused 6|
+4|1536 x|label --mid 9 --did 1 gm1 e.img|refused 8|
+4|1536 x|label --mid 9 --did 1 gm1 a.img|refused 9|
+4|0 x|insert --did 9 gm1 d.img|refused 5|
+4|0 x|insert --did 9 gm0 e.img|refused 8|
+4|0 x|insert --did 9 gm0 a.img|refused 9|
+END
+put_image "$work/kept-images/e.img" e fresh
+printf 'SQLite format 3\0' | dd of="$work/kept-images/e.img" conv=notrunc 2>/dev/null
+title='nor of an image that carries metadata'
+expect_over_bench <<'END'
+label --mid 9 --did 1 gm1 e.img|refused 10|
+insert --did 9 gm0 e.img|refused 10|
+END
+
+# ---- components that leave, and a mirror that ends
+
+put_back
+batch 'k4 insert --did 3 gm0 c.img\n'
+keep_bench
+title='of two copies one is left, while another is being filled'
+expect_over_bench <<'END'
+remove gm0 a.img|lost|b.img alone would be ACTIVE, while others aren't filled: sync first
+deactivate gm0 a.img|lost|b.img alone would be ACTIVE, while others aren't filled: sync first
+remove gm0 b.img|lost|a.img alone would be ACTIVE, while others aren't filled: sync first
+deactivate gm0 b.img|lost|a.img alone would be ACTIVE, while others aren't filled: sync first
+remove gm0 c.img|ok|
+deactivate gm0 c.img|ok|
+remove gm1 a.img|refused 5|
+deactivate gm0 d.img|refused 12|
+destroy gm0|lost|the mirror has 3 components, and the metadata of all are cleared
+destroy gm1|refused 5|
+rebuild gm0 b.img|ok|
+forget gm0|refused 20|
+advance gm0 c.img|ok|
+clear a.img|refused 9|
+END
+title='images that are there are given up'
+expect_over_bench <<'END'
+lost gm0 b.img a.img|lost|a.img is there, and as it is registered: remove takes it out;b.img is there, and as it is registered: remove takes it out
+lost gm0 b.img c.img|lost|b.img is there, and as it is registered: remove takes it out
+lost gm0 c.img|ok|
+lost gm0 d.img|refused 12|
+lost gm1 a.img|refused 5|
+END
+batch 'k5 advance gm0 c.img\nk6 deactivate gm0 b.img\n'
+keep_bench
+title='nothing is lost beside two copies, or while none is being filled'
+expect_over_bench <<'END'
+remove gm0 a.img|ok|
+deactivate gm0 c.img|ok|
+remove gm0 b.img|ok|
+END
+
+# ---- images that are left
+
+# Images of gm1: e.img is newer than d.img, f.img is BROKEN, and h.img out of use; g.img is of another mirror gm1.
+fresh_bench found
+images=$bench/images
+set -- 20 gm1 36 '\005' 44 '\005'
+put_edited "$images/d.img" d "$@" 45 '\002' 49 '\003'
+put_edited "$images/e.img" d "$@" 40 '\002' 45 '\002' 49 '\004'
+put_edited "$images/f.img" d "$@" 40 '\003' 45 '\001' 49 '\011'
+put_edited "$images/g.img" d "$@" 36 '\006' 40 '\004' 45 '\011' 49 '\011'
+put_edited "$images/h.img" d "$@" 40 '\005' 45 '\001' 49 '\011' 87 '\010'
+set --
+batch "$label"
+keep_bench
+title='an adoption leaves images of its mirror'
+expect_over_bench <<'END'
+adopt gm1 d.img|lost|e.img is of the same mirror and newer: adopt it too, or its data are lost;h.img is of the same mirror: adopt it too
+adopt gm1 e.img|lost|d.img is of the same mirror: adopt it too;h.img is of the same mirror: adopt it too
+adopt gm1 f.img|lost|d.img is of the same mirror and newer: adopt it too, or its data are lost;e.img is of the same mirror and newer: adopt it too, or its data are lost;h.img is of the same mirror: adopt it too
+adopt gm1 f.img d.img|lost|e.img is of the same mirror and newer: adopt it too, or its data are lost;h.img is of the same mirror: adopt it too
+adopt gm1 d.img g.img|refused 26|
+adopt gm1 d.img i.img|refused 8|
+adopt gm2 d.img|refused 26|
+adopt gm0 d.img|refused 6|
+END
+finish
