@@ -57,6 +57,29 @@ put_edited "$bench/images/a.img" a 36 '\011'
 at_bench pending
 expect 'another mirror in its place' 0 "$(lines 'clear b.img: zero\nmetadata of a.img: another')" ''
 put_back
+wrong=
+while IFS='|' read -r edits how; do
+    put_edited "$bench/images/b.img" b $edits
+    at_bench pending
+    told=$(cat "$work/output")
+    [ "$told" = "$(lines "clear b.img: $how\nmetadata of a.img: member")" ] || wrong=${wrong:-"'$edits' is not '$how': $told"}
+done <<'END'
+40 \002|member
+40 \011 53 \003|member
+20 gm1|member
+20 gm1 36 \010|member
+36 \010|another
+16 \005|no metadata
+0 g|no metadata
+END
+[ -z "$wrong" ] && pass 'how an image stands that is to be cleared' || fail 'how an image stands that is to be cleared' "$wrong"
+: >"$bench/images/b.img"
+at_bench pending
+expect 'one without a byte' 0 "$(lines 'clear b.img: absent\nmetadata of a.img: member')" ''
+head -c 512 /dev/zero >"$bench/images/b.img"
+at_bench pending
+expect 'one of a single sector' 0 "$(lines 'clear b.img: zero\nmetadata of a.img: member')" ''
+put_back
 
 # A blank file in a source's place is seen before its zeros are copied.
 if command -v sqlite3 >/dev/null; then

@@ -79,6 +79,50 @@ expect 'metadata that are damaged' 1 "$of_filled
 a.img damaged
 $(ending 4 1 "$amiss")" ''
 
+# ---- how an image stands to its component
+
+# Whether a check tells this of a.img, or nothing.
+stands() {
+    at_bench check
+    told=$(sed -n 's/^a\.img //p' "$work/output")
+    [ "$told" = "$2" ] || wrong=${wrong:-"'$1' is '$told', and not '$2'"}
+}
+
+fresh_bench stands
+batch "${label}k2 label --mid 8 --did 1 gm1 b.img\n"
+cp "$bench/images/a.img" "$work/as-registered"
+wrong=
+while IFS='|' read -r edits how; do
+    put_edited "$bench/images/a.img" a $edits
+    stands "$edits" "$how"
+done <<'END'
+|
+40 \002|another component
+36 \010|another mirror
+20 gm1|another mirror
+20 gm1 36 \010|another mirror
+49 \000|older
+49 \002|newer
+45 \001|newer
+45 \001 49 \000|newer
+53 \011|changed
+0 g|no metadata
+END
+cp "$work/as-registered" "$bench/images/a.img"
+overwrite "$bench/images/a.img" 100 '\001'
+stands 'a bit that was flipped' damaged
+head -c 2048 /dev/zero >"$bench/images/a.img"
+stands 'zeros' 'no metadata'
+tail -c 512 "$work/as-registered" | cat "$work/as-registered" - >"$bench/images/a.img"
+stands 'a sector more' 'another size'
+tail -c 1536 "$work/as-registered" >"$bench/images/a.img"
+stands 'a sector less' 'another size'
+: >"$bench/images/a.img"
+stands 'no byte' absent
+rm "$bench/images/a.img"
+stands 'no file' absent
+[ -z "$wrong" ] && pass 'each way in which an image stands' || fail 'each way in which an image stands' "$wrong"
+
 # ---- a check after a stop
 
 stopped_remove stopped
