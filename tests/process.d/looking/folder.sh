@@ -54,6 +54,21 @@ expect 'two names of one file' 3 '' "$broken"
 run dump --shelf "$hostile" fifteen-letters
 expect 'a dump of another image beside them' 0 "$said" ''
 
+# A folder whose path has 4,090 bytes can be listed, but after its name became longer no path leads to the entry in it.
+long=$work/a-longer-name
+below=$(awk -v count=$((4090 - ${#long})) 'BEGIN { for (i = 0; i < count; i++) printf i % 200 ? "d" : "/" }')
+mkdir -p "$work/short$below"
+put_image "$work/short$below/image" i bare
+run taste --shelf "$work/short$below"
+expect 'a folder far below' 0 "$(lines 'no mirrors\nleft out:\n  image           no metadata')" ''
+mv "$work/short" "$long"
+[ "$(ls "$long$below")" = image ] && pass 'a folder with a path too long for its entry is listed' ||
+    fail 'a folder with a path too long for its entry is listed' "$(ls "$long$below" 2>&1)"
+run taste --shelf "$long$below"
+expect 'an entry that can not be looked at' 3 '' "$broken"
+run recover --registry "$work/beside" --shelf "$long$below"
+expect 'no opening passes over it' 3 '' "$broken"
+
 # ---- looking needs no right to write
 
 chmod 755 "$work" "$shelf"
