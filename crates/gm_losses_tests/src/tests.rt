@@ -3,7 +3,7 @@
 use gm_apply::Watch;
 use gm_commands::{BalanceWord, Command, NewComponent, NewMirror, Providers, Slice};
 use gm_losses::{Loss, losses};
-use gm_metadata::{Balance, Label, Metadata, MirrorFlags, encode};
+use gm_metadata::{Balance, Label, MirrorFlags, encode};
 use gm_shelf::{FaultShelf, MemShelf, Shelf, ShelfFault};
 use gm_state::{Component, Disk, Mirror, State, metadata};
 use std::process::Abort;
@@ -179,123 +179,98 @@ fn providers(rt: &(impl Abort + AllocGlobal), name: &str) -> Providers {
     Providers::new(named.expect(rt, "no memory")).expect(rt, "none")
 }
 
-// What is told of a command, what the watch is told at last, and how many reads that takes.
-#[derive(Clone, Copy)]
-struct Case<'a> {
-    command: &'a Command,
-    losses: &'a [Loss],
-    told: [u64; 2],
-    reads: u64,
+fn adopted(rt: &(impl Abort + AllocGlobal), name: &str, provider: &str) -> Command {
+    Command::Adopt {
+        name: label(rt, name),
+        providers: providers(rt, provider),
+    }
 }
 
-// Whether just these losses are told, in this order, and just that to the watch.
+// Whether just these losses are told, in this order, and just that to the watch at last.
 fn are_told<H: Shelf>(
     rt: &(impl Abort + AllocGlobal),
     shelf: &mut H,
-    state: &State,
-    case: Case<'_>,
+    command: &Command,
+    watched: [u64; 2],
+    expected: &[Loss],
 ) -> Result<bool, ShelfFault> {
     let mut told = Told {
         sectors: 0,
         total: 0,
     };
-    let list = losses(rt.alloc(), shelf, state, case.command, &mut told)?;
-    Ok(list.as_slice() == case.losses && [told.sectors, told.total] == case.told)
+    let list = losses(rt.alloc(), shelf, &state(rt), command, &mut told)?;
+    Ok(list.as_slice() == expected && [told.sectors, told.total] == watched)
 }
 
-// It is told so unless one of its reads fails.
-fn is_told(rt: &(impl Abort + AllocGlobal), state: &State, case: Case<'_>) {
-    for nth in 1..case.reads + 2 {
+// A command takes so many reads, and is told so unless one of them fails.
+fn tells(
+    rt: &(impl Abort + AllocGlobal),
+    command: &Command,
+    reads: u64,
+    watched: [u64; 2],
+    expected: &[Loss],
+) {
+    for nth in 1..reads.saturating_add(2) {
         let mut shelf = FaultShelf::stop_from(images(rt), nth);
-        let wanted = if nth > case.reads {
+        let wanted = if nth > reads {
             Ok(true)
         } else {
             Err(ShelfFault::Device)
         };
-        assert!(rt;
-            are_told(rt, &mut shelf, state, case) == wanted,
-            "at {nth} of {}",
-            case.reads
-        );
+        let told = are_told(rt, &mut shelf, command, watched, expected);
+        assert!(rt; told == wanted, "at {nth} of {reads}");
     }
 }
 
-// Of a label or a lost image two reads or one are made; of an insert, for each run of 128 sectors,
-// as many as it has; of an adoption one of each image.
+// Of a label two sectors are read. Of an insert they are too, and then each run of 128 sectors up to
+// the first data; of a lost image its last one, and of an adoption that of each image.
 #[test]
 fn each_loss_is_told_unless_a_read_fails(rt: HostRuntime) {
-    let state = state(&rt);
     let [a, b, e, j, k] = ["a.img", "b.img", "e.img", "j.img", "k.img"].map(|name| label(
         &rt, name,
     ));
-    let (gm0, gm1) = (label(&rt, "gm0"), label(&rt, "gm1"));
-    let over_both = [
-        Loss::Database { provider: k },
-        Loss::LastSector { provider: k },
-    ];
-    let over_data = [Loss::Data {
+    let name = label(&rt, "gm0");
+    let database = Loss::Database { provider: k };
+    let last = Loss::LastSector { provider: k };
+    tells(&rt, &labelled(&rt, "gm9", "i.img"), 2, [0, 0], &[]);
+    tells(
+        &rt,
+        &labelled(&rt, "gm9", "k.img"),
+        2,
+        [0, 0],
+        &[database, last],
+    );
+    tells(&rt, &inserted(&rt, "gm0", "i.img"), 6, [4, 4], &[]);
+    tells(&rt, &inserted(&rt, "gm0", "k.img"), 2, [0, 0], &[database]);
+    let data = Loss::Data {
         provider: j,
         place: 200,
-    }];
-    let left = [Loss::Left {
+    };
+    tells(
+        &rt,
+        &inserted(&rt, "gm0", "j.img"),
+        258,
+        [128, 300],
+        &[data],
+    );
+    let providers = providers(&rt, "a.img");
+    let intact = Loss::Intact { provider: a };
+    tells(
+        &rt,
+        &Command::Lost { name, providers },
+        1,
+        [0, 0],
+        &[intact],
+    );
+    let left = Loss::Left {
         provider: e,
         newer: true,
-    }];
-    let lost = Command::Lost {
-        name: gm0,
-        providers: providers(&rt, "a.img"),
     };
-    let adopt = Command::Adopt {
-        name: gm1,
-        providers: providers(&rt, "d.img"),
-    };
-    let deactivate = Command::Deactivate {
-        name: gm0,
-        provider: a,
-    };
-    for (command, losses, told, reads) in [
-        (&labelled(&rt, "gm9", "i.img"), [].as_slice(), [0, 0], 2u64),
-        (
-            &labelled(&rt, "gm9", "k.img"),
-            over_both.as_slice(),
-            [0, 0],
-            2,
-        ),
-        (&inserted(&rt, "gm0", "i.img"), [].as_slice(), [4, 4], 6),
-        (
-            &inserted(&rt, "gm0", "j.img"),
-            over_data.as_slice(),
-            [128, 300],
-            258,
-        ),
-        (
-            &inserted(&rt, "gm0", "k.img"),
-            [Loss::Database { provider: k }].as_slice(),
-            [0, 0],
-            2,
-        ),
-        (&lost, [Loss::Intact { provider: a }].as_slice(), [0, 0], 1),
-        (&adopt, left.as_slice(), [0, 0], 6),
-        (
-            &deactivate,
-            [Loss::OnlyCopy { provider: b }].as_slice(),
-            [0, 0],
-            0,
-        ),
-        (
-            &Command::Destroy { name: gm0 },
-            [Loss::Mirror { components: 3 }].as_slice(),
-            [0, 0],
-            0,
-        ),
-        (&Command::Forget { name: gm0 }, [].as_slice(), [0, 0], 0),
-    ] {
-        let case = Case {
-            command,
-            losses,
-            told,
-            reads,
-        };
-        is_told(&rt, &state, case);
-    }
+    tells(&rt, &adopted(&rt, "gm1", "d.img"), 6, [0, 0], &[left]);
+    let deactivate = Command::Deactivate { name, provider: a };
+    let copy = Loss::OnlyCopy { provider: b };
+    tells(&rt, &deactivate, 0, [0, 0], &[copy]);
+    let all = Loss::Mirror { components: 3 };
+    tells(&rt, &Command::Destroy { name }, 0, [0, 0], &[all]);
+    tells(&rt, &Command::Forget { name }, 0, [0, 0], &[]);
 }
