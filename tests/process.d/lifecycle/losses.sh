@@ -116,7 +116,7 @@ deactivate gm0 b.img|lost|a.img alone would be ACTIVE, while others aren't fille
 remove gm0 c.img|ok|
 deactivate gm0 c.img|ok|
 remove gm1 a.img|refused 5|
-deactivate gm0 d.img|refused 12|
+deactivate gm0 d.img|refused 8|
 destroy gm0|lost|the mirror has 3 components, and the metadata of all are cleared
 destroy gm1|refused 5|
 rebuild gm0 b.img|ok|
