@@ -127,11 +127,19 @@ END
 title='images that are there are given up'
 expect_over_bench <<'END'
 lost gm0 b.img a.img|lost|a.img is there, and as it is registered: remove takes it out;b.img is there, and as it is registered: remove takes it out
-lost gm0 b.img c.img|lost|b.img is there, and as it is registered: remove takes it out
-lost gm0 c.img|ok|
+lost gm0 b.img c.img|lost|b.img is there, and as it is registered: remove takes it out;c.img is there, and as it is registered: remove takes it out
+lost gm0 c.img|lost|c.img is there, and as it is registered: remove takes it out
 lost gm0 d.img|refused 12|
 lost gm1 a.img|refused 5|
 END
+overwrite "$work/kept-images/c.img" 200 x
+title='one that is not as it is registered is no loss'
+expect_over_bench <<'END'
+lost gm0 b.img c.img|lost|b.img is there, and as it is registered: remove takes it out
+lost gm0 c.img|ok|
+END
+overwrite "$work/kept-images/c.img" 200 '\000'
+put_back
 batch 'k5 advance gm0 c.img\nk6 deactivate gm0 b.img\n'
 keep_bench
 title='nothing is lost beside two copies, or while none is being filled'
