@@ -71,6 +71,31 @@ say '40 passed, 0 failed\n' 0 '# words/lines\n' 1
 expect_end 'tests that did not come to their end' 1 '# it took a time
 40 passed, 1 failed'
 
+# ---- ./check --times says what went to which crate
+
+# Stands for `rt ci`, by processes that work for some seconds with the words and in the folders of real ones.
+cat >"$work/path/rt" <<'END'
+#!/bin/sh
+[ "$1" = ci ] || exit 0
+work() {
+    awk 'BEGIN { for (n = 0; n < 40000000; n++) m += n }' --crate-name "$@"
+}
+work gm_one &
+work gm_one --test &
+(mkdir -p "$told/rt-edit-1-a" && cd "$told/rt-edit-1-a" && work gm_two --incremental /tmp/rt-edits-1-a/seed) &
+(mkdir -p "$told/rt-edit-1-b" && cd "$told/rt-edit-1-b" && work gm_two --incremental /tmp/rt-edits-1-a/3) &
+work gmbench --crate-checked checked &
+wait
+cat "$told/rt"
+END
+say '40 passed, 0 failed\n' 0 '# words/lines\nok one\n2 passed, 0 failed\n' 0
+cp "$top/tools/times" "$here/tools"
+PATH=$work/path:$PATH "$here/check" --times >"$work/printed" 2>&1 </dev/null
+for row in 'gm_one *proof' 'gm_one *proof of tests' 'gm_two *seed of edits' 'gm_two *edits' 'gmbench *compiling'; do
+    sed -n '/^# processor seconds/,/^# it took/p' "$work/printed" | grep -q "^ *[1-9][0-9]*  $row$" &&
+        pass "the table has $row" || fail "the table has $row" "it printed $(cat "$work/printed")"
+done
+
 # ---- each file of tests says in its first line what it shows
 
 "$top/tests/process" --list >"$work/listed" 2>&1
