@@ -98,23 +98,24 @@ fn intents(rt: &impl Abort) -> [Intent; 9] {
     ]
 }
 
+// Adds an image of four sectors, the last of which is this.
+fn add(rt: &(impl Abort + AllocGlobal), shelf: &mut MemShelf, name: &str, last: [u8; 512]) {
+    let sectors = [[1; 512], [1; 512], [1; 512], last].to_vec(rt.alloc());
+    let sectors = sectors.expect(rt, "no memory");
+    let provider = label(rt, name);
+    assert!(rt; shelf.sectors(provider).is_none());
+    shelf.add(provider, sectors).expect(rt, "no memory");
+}
+
 // a.img as it is registered, b.img and c.img with what a.img says, and d.img with zeros.
 fn shelf(rt: &(impl Abort + AllocGlobal)) -> MemShelf {
     let component = component(rt, "gm0", "a.img", 1);
     let said = encode(&metadata(&mirror(rt, "gm0", 7), &component));
     let mut shelf = MemShelf::new(rt.alloc());
-    for (name, last) in [
-        ("a.img", said),
-        ("b.img", said),
-        ("c.img", said),
-        ("d.img", [0; 512]),
-    ] {
-        let sectors = [[1; 512], [1; 512], [1; 512], last].to_vec(rt.alloc());
-        let provider = label(rt, name);
-        assert!(rt; shelf.sectors(provider).is_none());
-        let sectors = sectors.expect(rt, "no memory");
-        shelf.add(provider, sectors).expect(rt, "no memory");
-    }
+    add(rt, &mut shelf, "a.img", said);
+    add(rt, &mut shelf, "b.img", said);
+    add(rt, &mut shelf, "c.img", said);
+    add(rt, &mut shelf, "d.img", [0; 512]);
     shelf
 }
 

@@ -230,18 +230,14 @@ fn each_loss_is_told_unless_a_read_fails(rt: HostRuntime) {
         &rt, name,
     ));
     let name = label(&rt, "gm0");
-    let database = Loss::Database { provider: k };
-    let last = Loss::LastSector { provider: k };
+    let both = [
+        Loss::Database { provider: k },
+        Loss::LastSector { provider: k },
+    ];
     tells(&rt, &labelled(&rt, "gm9", "i.img"), 2, [0, 0], &[]);
-    tells(
-        &rt,
-        &labelled(&rt, "gm9", "k.img"),
-        2,
-        [0, 0],
-        &[database, last],
-    );
+    tells(&rt, &labelled(&rt, "gm9", "k.img"), 2, [0, 0], &both);
     tells(&rt, &inserted(&rt, "gm0", "i.img"), 6, [4, 4], &[]);
-    tells(&rt, &inserted(&rt, "gm0", "k.img"), 2, [0, 0], &[database]);
+    tells(&rt, &inserted(&rt, "gm0", "k.img"), 2, [0, 0], &both[..1]);
     let data = Loss::Data {
         provider: j,
         place: 128,
