@@ -237,25 +237,40 @@ fn rows_say_a_state_and_its_parts(rt: HostRuntime) {
     must(&rt, first == Ok(Some(Reply::Plain)), "k1");
 }
 
+// Whether something is read, if it is to be, or else unreadable; and what was read.
+fn read_if<'a, T>(
+    rt: &impl Abort,
+    found: &'a Result<T, StoreFault>,
+    wanted: bool,
+    edit: &str,
+) -> Option<&'a T> {
+    match found {
+        Ok(read) => {
+            must(rt, wanted, edit);
+            Some(read)
+        }
+        Err(fault) => {
+            must(rt, !wanted && *fault == StoreFault::Unreadable, edit);
+            None
+        }
+    }
+}
+
 // After each of these edits nothing is loaded. The records, and what a command on gm0 asks for, are
 // read if they are to be, and else unreadable.
 fn must_leave(rt: &(impl Abort + AllocGlobal), edits: &[&str], records: bool, gm0: bool) {
     for edit in edits {
         let read = read_in_memory(rt, edit, 0);
-        must(rt, read.loaded.err() == Some(StoreFault::Unreadable), edit);
-        match read.records {
-            Ok(state) => {
-                must(rt, records, edit);
-                must_be_the_records(rt, &state);
-            }
-            Err(fault) => must(rt, !records && fault == StoreFault::Unreadable, edit),
+        must(
+            rt,
+            matches!(&read.loaded, Err(StoreFault::Unreadable)),
+            edit,
+        );
+        if let Some(state) = read_if(rt, &read.records, records, edit) {
+            must_be_the_records(rt, state);
         }
-        match read.gm0 {
-            Ok(part) => {
-                must(rt, gm0, edit);
-                must_be_gm0(rt, &part.state);
-            }
-            Err(fault) => must(rt, !gm0 && fault == StoreFault::Unreadable, edit),
+        if let Some(part) = read_if(rt, &read.gm0, gm0, edit) {
+            must_be_gm0(rt, &part.state);
         }
     }
 }
