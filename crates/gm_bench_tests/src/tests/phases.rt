@@ -65,7 +65,7 @@ fn goes_through_its_phases<S: Alter + Drop, H: Shelf + Drop>(
     shelf: H,
 ) {
     let mut bench = got(rt, open(rt.alloc(), store, shelf));
-    let said = Some(got(rt, metadata(1, 1, IN_SYNC)));
+    let said = got(rt, metadata(1, 1, IN_SYNC));
     must_show(rt, &mut bench, Phase::Ready, 0, None);
     is_answered(rt, &mut bench, Answer::Done(1, Reply::Plain));
     must_show(rt, &mut bench, Phase::Pending, 1, None);
@@ -74,11 +74,11 @@ fn goes_through_its_phases<S: Alter + Drop, H: Shelf + Drop>(
         got(rt, try_apply(&mut bench)).is_ok(),
         "not carried out",
     );
-    must_show(rt, &mut bench, Phase::Applied, 1, said);
+    must_show(rt, &mut bench, Phase::Applied, 1, Some(said));
     must(rt, got(rt, try_settle(&mut bench)).is_ok(), "not settled");
-    must_show(rt, &mut bench, Phase::Ready, 1, said);
+    must_show(rt, &mut bench, Phase::Ready, 1, Some(said));
     is_answered(rt, &mut bench, Answer::Repeated(1, Reply::Plain));
-    must_show(rt, &mut bench, Phase::Ready, 1, said);
+    must_show(rt, &mut bench, Phase::Ready, 1, Some(said));
 }
 
 #[test]
