@@ -49,6 +49,11 @@ fn must_show<S: Alter, H: Shelf>(
     must(rt, bench.phase() == phase, "another phase");
 }
 
+// What a.img says after the label.
+fn labelled(rt: &impl Abort) -> Option<Metadata> {
+    Some(got(rt, metadata(1, 1, IN_SYNC)))
+}
+
 // The label, which is accepted now or was before.
 fn is_answered<S: Alter, H: Shelf>(
     rt: &(impl Abort + AllocGlobal),
@@ -65,7 +70,6 @@ fn goes_through_its_phases<S: Alter + Drop, H: Shelf + Drop>(
     shelf: H,
 ) {
     let mut bench = got(rt, open(rt.alloc(), store, shelf));
-    let said = got(rt, metadata(1, 1, IN_SYNC));
     must_show(rt, &mut bench, Phase::Ready, 0, None);
     is_answered(rt, &mut bench, Answer::Done(1, Reply::Plain));
     must_show(rt, &mut bench, Phase::Pending, 1, None);
@@ -74,11 +78,11 @@ fn goes_through_its_phases<S: Alter + Drop, H: Shelf + Drop>(
         got(rt, try_apply(&mut bench)).is_ok(),
         "not carried out",
     );
-    must_show(rt, &mut bench, Phase::Applied, 1, Some(said));
+    must_show(rt, &mut bench, Phase::Applied, 1, labelled(rt));
     must(rt, got(rt, try_settle(&mut bench)).is_ok(), "not settled");
-    must_show(rt, &mut bench, Phase::Ready, 1, Some(said));
+    must_show(rt, &mut bench, Phase::Ready, 1, labelled(rt));
     is_answered(rt, &mut bench, Answer::Repeated(1, Reply::Plain));
-    must_show(rt, &mut bench, Phase::Ready, 1, Some(said));
+    must_show(rt, &mut bench, Phase::Ready, 1, labelled(rt));
 }
 
 #[test]
