@@ -22,7 +22,7 @@ WORDS = {
     "README.md": 700,
     "CHANGELOG.md": 500,
     "docs/ARCHITECTURE.md": 3000,
-    "docs/DECISIONS.md": 5000,
+    "docs/DECISIONS.md": 5050,
     "docs/DEFINITIONS.md": 4000,
     "docs/GATE.md": 500,
     "docs/PERFORMANCE.md": 1000,
