@@ -24,7 +24,7 @@ WORDS = {
     "docs/ARCHITECTURE.md": 3000,
     "docs/DECISIONS.md": 5050,
     "docs/DEFINITIONS.md": 4000,
-    "docs/GATE.md": 500,
+    "docs/GATE.md": 550,
     "docs/PERFORMANCE.md": 1000,
     "docs/PROOF.md": 3400,
     "docs/REFERENCE.md": 9500,
