@@ -84,6 +84,7 @@ work gm_one &
 work gm_one --test &
 (mkdir -p "$told/rt-edit-1-a" && cd "$told/rt-edit-1-a" && work gm_two --incremental /tmp/rt-edits-1-a/seed) &
 (mkdir -p "$told/rt-edit-1-b" && cd "$told/rt-edit-1-b" && work gm_two --incremental /tmp/rt-edits-1-a/3) &
+(mkdir -p "$told/rt-edit-b2_cd" && cd "$told/rt-edit-b2_cd" && work gm_three --incremental /tmp/rt-edits-x3) &
 work gmbench --crate-checked checked &
 wait
 cat "$told/rt"
@@ -91,7 +92,7 @@ END
 say '40 passed, 0 failed\n' 0 '# words/lines\nok one\n2 passed, 0 failed\n' 0
 cp "$top/tools/times" "$here/tools"
 PATH=$work/path:$PATH "$here/check" --times >"$work/printed" 2>&1 </dev/null
-for row in 'gm_one *proof' 'gm_one *proof of tests' 'gm_two *seed of edits' 'gm_two *edits' 'gmbench *compiling'; do
+for row in 'gm_one *proof' 'gm_one *proof of tests' 'gm_two *seed of edits' 'gm_two *edits' 'gm_three *edits' 'gmbench *compiling'; do
     sed -n '/^# processor seconds/,/^# it took/p' "$work/printed" | grep -q "^ *[1-9][0-9]*  $row$" &&
         pass "the table has $row" || fail "the table has $row" "it printed $(cat "$work/printed")"
 done
@@ -107,7 +108,7 @@ done
 # ---- what tools/test-needs names is what the tests look for
 
 needs=$(sed -n "s/^needs='\(.*\)'/\1/p" "$top/tools/test-needs")
-for need in python3 cc sqlite3 curl zsh fish mandoc man dot gnuplot /usr/bin/time; do
+for need in python3 cc sqlite3 curl zsh fish mandoc man dot gnuplot strace /usr/bin/time; do
     case " $needs " in
         *" $need "*) pass "$need is installed for the tests" ;;
         *) fail "$need is installed for the tests" 'tools/test-needs lacks it' ;;
