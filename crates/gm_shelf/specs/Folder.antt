@@ -15,10 +15,13 @@ use Rattle.gm_shelf.specs.declared.folder_images.ImageFile.{ImageFile}
 abbrev pub sectors_of : BTreeMap (List ℕ) ImageFile → Sizes
 sectors_of images p = option_map (λ image. image.length / 512) (get (slice_cmp nat_cmp) images p)
 
+-- both are one file: by device, inode and time of birth
+abbrev pub is_same_file : FileId → FileId → Bool
+is_same_file a b = (a.device == b.device) && ((a.inode == b.inode) && (a.born == b.born))
+
 -- the image is one of these files
 abbrev pub is_one_of : List FileId → ImageFile → Bool
-is_one_of files image =
-    list_any (λ file. (file.device == image.file.device) && (file.inode == image.file.inode)) files
+is_one_of files image = list_any (λ file. is_same_file file image.file) files
 
 -- these images, each with its name, but those that are one of these files
 abbrev pub images_but : List FileId → List (List ℕ × ImageFile) → List (List ℕ × ImageFile)

@@ -4,7 +4,7 @@ pub mod Entries
 pub mod FaultShelves
 pub mod Faults
 pub mod FileFaults
-mod FileShelves
+pub mod FileShelves
 pub mod Folder
 pub mod History
 pub mod LastSector

@@ -33,7 +33,7 @@ pub struct FileShelf<R: Files<File = File> + AllocGlobal + Clone + Drop> {
 }
 
 impl<R: Files<File = File> + AllocGlobal + Clone + Drop> FileShelf<R> {
-    ghost use Rattle.gm_shelf.specs.FileShelves.{failures_of, folder_of, images_of, last_failure_of};
+    ghost use Rattle.gm_shelf.specs.FileShelves.{failures_of, folder_of, images_of, last_failure_of, IsSameFolder};
     ghost use Rattle.gm_shelf.specs.Folder.{images_but};
 
     /// Opens a folder: its regular files whose names are labels and whose lengths are multiples of
@@ -71,6 +71,33 @@ impl<R: Files<File = File> + AllocGlobal + Clone + Drop> FileShelf<R> {
         ensures images { images_of self.new ≡ images_but files.now (images_of self.old) }
     {
         leave_out(&mut self.images, files);
+    }
+
+    // Settles one image.
+    fn settle_image(&mut self, name: Label, image: ImageFile) -> Result<(), ShelfFault>
+        ensures same { IsSameFolder self.old self.new }
+        ensures count { failures_of self.new ≡ faults_after result (failures_of self.old) }
+        ensures there { TellsNoLack result }
+    {
+        let done = self.files.with(name, image, |file| file.settle());
+        outcome(done, name, &mut self.failures, &mut self.last_failure)
+    }
+
+    /// Makes what is read next of these images what their media hold: what the system holds of
+    /// them is written through, and then forgotten. A system that couldn't write something may
+    /// show it all the same until then, and a sync has nothing more to report of it. Names of no
+    /// image are passed over. Ends at the first image that fails.
+    pub fn settle(&mut self, names: &[Label]) -> Result<(), ShelfFault>
+        ensures same { IsSameFolder self.old self.new }
+        ensures count { failures_of self.new ≡ faults_after result (failures_of self.old) }
+        ensures there { TellsNoLack result }
+    {
+        for name in names {
+            if let Some(image) = self.images.get(name).copied() {
+                self.settle_image(*name, image)?;
+            }
+        }
+        Ok(())
     }
 
     /// Opens those images of a folder that have these names, to be read alone: every write fails.

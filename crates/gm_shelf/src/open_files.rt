@@ -7,7 +7,7 @@ use crate::failure::FileFault;
 use crate::file_id::FileId;
 use crate::folder_images::ImageFile;
 use crate::size_limit::check_size;
-use crate::whole_transfers::{read_whole, sync_whole, write_whole};
+use crate::whole_transfers::{forget_pages, read_whole, sync_whole, write_whole};
 use gm_metadata::Label;
 use std::collections::BTreeMap;
 use std::fs::{self, File, Metadata, OpenOptions};
@@ -49,11 +49,26 @@ impl OpenFile {
         write_whole(&self.file, bytes, offset)
     }
 
-    /// Writes through what the file holds.
+    /// Writes through what the file holds. If that fails, the system counts what it couldn't write
+    /// as written, and would go on showing it: so it is to forget that.
     pub(crate) fn sync(&mut self) -> io::Result<()> {
-        sync_whole(&self.file)?;
-        self.is_unsynced = false;
-        Ok(())
+        match sync_whole(&self.file) {
+            Ok(()) => {
+                self.is_unsynced = false;
+                Ok(())
+            }
+            Err(error) => {
+                let _ = forget_pages(&self.file);
+                Err(error)
+            }
+        }
+    }
+
+    /// Writes through what the file holds, and has the system forget what it holds of it: what is
+    /// read next is what the medium has.
+    pub(crate) fn settle(&mut self) -> io::Result<()> {
+        self.sync()?;
+        forget_pages(&self.file)
     }
 }
 

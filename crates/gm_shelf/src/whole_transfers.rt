@@ -1,5 +1,5 @@
 //! Reads, writes and syncs of a file that are whole: what comes in parts goes on, and what signals
-//! interrupt is tried again, but not without end.
+//! interrupt is tried again, but not without end. What the system holds of a file can be forgotten.
 
 ghost use Rattle.std.specs.Io.{ReadsAtMost, WritesAtMost};
 
@@ -82,6 +82,16 @@ fn sync_once(file: &File) -> io::Result<()> {
         return Ok(());
     }
     Err(io::Error::from_raw_os_error(os::errno()))
+}
+
+/// Has the system forget what it holds of the file and needn't write, so that the next read asks
+/// the medium.
+pub(crate) fn forget_pages(file: &File) -> io::Result<()> {
+    // A length of 0 is the whole file, its last page too.
+    match libc::posix_fadvise(file.as_raw_fd(), 0, 0, libc::POSIX_FADV_DONTNEED) {
+        0 => Ok(()),
+        number => Err(io::Error::from_raw_os_error(number)),
+    }
 }
 
 /// Writes through what the file holds.

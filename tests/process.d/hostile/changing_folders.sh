@@ -5,13 +5,15 @@
 # ---- a folder that changes under a run
 
 # What is done to b.img while a batch is under way, or before a recovery. What it was is kept in `elsewhere`, beside the folder.
-changes='shrinks grows goes moves is-replaced is-a-link is-a-link-within is-a-pipe is-a-folder'
+changes='shrinks grows goes moves is-replaced is-made-anew is-a-link is-a-link-within is-a-pipe is-a-folder'
 change() {
     image=$bench/images/b.img
     elsewhere=$bench/elsewhere
     case $1 in
         shrinks) head -c 1536 "$image" >"$elsewhere" && cat "$elsewhere" >"$image" ;;
         grows) head -c 512 /dev/zero >>"$image" ;;
+        # Most file systems give it the inode of the one that is gone.
+        is-made-anew) cp "$image" "$elsewhere" && rm "$image" && cp "$elsewhere" "$image" ;;
         *) mv "$image" "$elsewhere" ;;
     esac
     case $1 in
@@ -114,13 +116,16 @@ for kind in $changes; do
     everything >"$work/before"
     at_bench recover
     everything >"$work/behind"
-    if [ "$kind" = is-replaced ]; then
-        # as good as the other one
-        expect "an image that something pending wants $kind" 0 'recovered 2' ''
-    else
-        expect "an image that something pending wants $kind" 3 '' 'gmbench: F5 absent b.img'
-        expect_same "an image that something pending wants $kind: nothing is written" "$work/behind" "$work/before"
-    fi
+    case $kind in
+        is-replaced | is-made-anew)
+            # as good as the other one
+            expect "an image that something pending wants $kind" 0 'recovered 2' ''
+            ;;
+        *)
+            expect "an image that something pending wants $kind" 3 '' 'gmbench: F5 absent b.img'
+            expect_same "an image that something pending wants $kind: nothing is written" "$work/behind" "$work/before"
+            ;;
+    esac
 done
 
 # Rights that an image loses: one that is open is written still, and another can't be opened.
