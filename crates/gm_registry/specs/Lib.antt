@@ -4,6 +4,7 @@ pub mod Fitting
 pub mod FittingChanges
 pub mod Keys
 pub mod Listing
+pub mod Named
 pub mod Opening
 pub mod Opens
 pub mod Parts

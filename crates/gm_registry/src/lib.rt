@@ -18,6 +18,7 @@ mod intents;
 mod laws;
 mod load;
 mod mirrors;
+mod named;
 mod open_store;
 mod part;
 mod patches;
@@ -28,5 +29,6 @@ mod whole_tables;
 
 pub use gm_rows::{Loaded, StoreFault};
 pub use laws::{change_holds, one_reading, tables_are_saved};
+pub use named::named_images;
 pub use part::Part;
 pub use registry::{OpenFault, Registry};
