@@ -15,5 +15,5 @@ mod single;
 
 pub use batch::{Lines, hand_in, hand_in_lines_of, hand_in_text};
 pub use insistence::is_wanted;
-pub use serving::{serve, serve_connections};
+pub use serving::serve;
 pub use single::{One, hand_in_one};

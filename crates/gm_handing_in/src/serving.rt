@@ -93,9 +93,9 @@ fn serve_connection<S: Alter, H: Shelf, E: Write>(
     served.fault
 }
 
-/// Serves so many connections of a listener, one after the other, and logs each if that is
-/// wanted. A bench that fails ends it.
-pub fn serve_connections<S: Alter, H: Shelf, E: Write>(
+// Serves so many connections of a listener, one after the other, and logs each if that is wanted. A
+// bench that fails ends it.
+fn serve_connections<S: Alter, H: Shelf, E: Write>(
     rt: &HostRuntime,
     listener: &TcpListener,
     service: Service,
