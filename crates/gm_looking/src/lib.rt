@@ -18,5 +18,5 @@ mod taste;
 
 pub use checking::{check_place, check_shelf};
 pub use comparing::scrub;
-pub use read_only::{look_at, show_pending, show_pending_at};
+pub use read_only::{complain_of_pending, look_at, show_pending, show_pending_at};
 pub use taste::taste_folder;

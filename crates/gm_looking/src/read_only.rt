@@ -149,6 +149,16 @@ pub fn show_pending_at<I, O: Write, E>(
     Ok(report.status)
 }
 
+/// Complains of what an opening of the registry would carry out, if that can be read.
+pub fn complain_of_pending<E: Write>(rt: &HostRuntime, registry: &str, complaints: &mut E) {
+    let Ok(whole) = records_of(rt, registry) else {
+        return;
+    };
+    if let Ok(text) = pending_text(rt.alloc(), &whole.loaded.intents) {
+        let _ = complaints.write_all(text.as_bytes());
+    }
+}
+
 /// Prints what is looked at, and how many writes are pending, if any are.
 pub fn look_at<I, O: Write, E: Write>(
     rt: &HostRuntime,

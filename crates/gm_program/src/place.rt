@@ -10,9 +10,10 @@ use crate::recover::{recovered_without, refused_without};
 use gm_bench::{Bench, BenchFault, Without};
 use gm_command_line::{Form, Work};
 use gm_faults::{Fault, explain_loss};
+use gm_looking::complain_of_pending;
 use gm_metadata::Label;
 use gm_process::{HeldFolder, Patience, Place, Status, Streams};
-use gm_registry::StoreFault;
+use gm_registry::{StoreFault, named_images};
 use gm_registry_files::{
     StoreCause, foreign_fault, is_no_database, is_there, leave_out_registry, open_store,
     store_cause,
@@ -24,6 +25,32 @@ use sqlite_disk::Disk;
 use std::alloc::Global;
 use std::io::{self, BufRead, Write};
 
+// Has what is read next of the images that pending writes name be what their media hold. What
+// can't be read of a registry is left to its opening.
+fn settle_named<S: Alter, I, O, E>(
+    alloc: Global,
+    store: &mut Connection<S>,
+    shelf: &mut FileShelf<HostRuntime>,
+    streams: &mut Streams<'_, I, O, E>,
+) -> Result<(), BenchFault> {
+    let names = match named_images(alloc, store) {
+        Ok(names) => names,
+        Err(StoreFault::Memory) => return Err(BenchFault::Memory),
+        Err(_) => return Ok(()),
+    };
+    let settled = shelf.settle(&names);
+    streams.explaining.failure = shelf.last_failure();
+    Ok(settled?)
+}
+
+// What is left of work at a bench, which is closed.
+struct Worked<S: Alter + Drop> {
+    report: Result<Report, Fault>,
+    store: Connection<S>,
+    // the images, if a command that was answered may be pending on them
+    shelf: Option<FileShelf<HostRuntime>>,
+}
+
 // Opens a bench without a provider, and gives its store back with what is told of that.
 fn without<S: Alter + Drop, I, O, E: Write>(
     alloc: Global,
@@ -33,26 +60,39 @@ fn without<S: Alter + Drop, I, O, E: Write>(
     key: &str,
     form: Form,
     streams: &mut Streams<'_, I, O, E>,
-) -> Result<(Result<Report, Fault>, Connection<S>), BenchFault>
+) -> Result<Worked<S>, BenchFault>
     requires { store.in_transaction ≡ false }
-    ensures { IfOk result (λ it. IfOk it.0 (λ report. MayRefuse report.status)) }
+    ensures { IfOk result (λ it. IfOk it.report (λ report. MayRefuse report.status)) }
 {
     match Bench::open_without(alloc, store, shelf, provider, key) {
         Ok(Without::Opened { bench, answer }) => {
             let report = recovered_without(alloc, key, answer, bench.redone(), form);
             let (store, _) = bench.close();
-            Ok((report.map_err(Fault::from), store))
+            Ok(Worked {
+                report: report.map_err(Fault::from),
+                store,
+                shelf: None,
+            })
         }
         Ok(Without::Refused { why, store, .. }) => {
             explain_loss(alloc, streams, key, provider, why);
             let report = refused_without(alloc, key, why, form);
-            Ok((report.map_err(Fault::from), store))
+            Ok(Worked {
+                report: report.map_err(Fault::from),
+                store,
+                shelf: None,
+            })
         }
         Err(e) => {
             streams.explaining.failure = e.shelf.last_failure();
             Err(e.fault)
         }
     }
+}
+
+// Whether a command that was answered may be pending: the bench failed among several commands.
+fn may_be_pending(work: &Work<'_>, report: &Result<Report, Fault>) -> bool {
+    matches!(work, Work::Batch { .. } | Work::Write(_)) && matches!(report, Err(Fault::Bench(_)))
 }
 
 // Opens a bench, has the work done at it, and gives its store back with the report.
@@ -62,16 +102,25 @@ fn worked<S: Alter + Drop, I: BufRead, O: Write, E: Write>(
     shelf: FileShelf<HostRuntime>,
     work: &Work<'_>,
     streams: &mut Streams<'_, I, O, E>,
-) -> Result<(Result<Report, Fault>, Connection<S>), BenchFault>
+) -> Result<Worked<S>, BenchFault>
     requires { store.in_transaction ≡ false }
-    ensures { IfOk result (λ it. IfOk it.0 (λ report. MayEnd work.now report.status)) }
+    ensures { IfOk result (λ it. IfOk it.report (λ report. MayEnd work.now report.status)) }
 {
     match Bench::open(rt.alloc(), store, shelf) {
         Ok(mut bench) => {
             let report = perform(work, rt, &mut bench, streams);
             let (store, shelf) = bench.close();
             streams.explaining.failure = shelf.last_failure();
-            Ok((report, store))
+            let shelf = if may_be_pending(work, &report) {
+                Some(shelf)
+            } else {
+                None
+            };
+            Ok(Worked {
+                report,
+                store,
+                shelf,
+            })
         }
         Err(e) => {
             streams.explaining.failure = e.shelf.last_failure();
@@ -81,16 +130,17 @@ fn worked<S: Alter + Drop, I: BufRead, O: Write, E: Write>(
 }
 
 // Opens a bench, which carries out what is pending, has the work done at it, and gives its store
-// back with the report.
+// back with the report. The images that pending writes name are settled before.
 fn at_bench<S: Alter + Drop, I: BufRead, O: Write, E: Write>(
     rt: &HostRuntime,
-    store: Connection<S>,
-    shelf: FileShelf<HostRuntime>,
+    mut store: Connection<S>,
+    mut shelf: FileShelf<HostRuntime>,
     work: &Work<'_>,
     streams: &mut Streams<'_, I, O, E>,
-) -> Result<(Result<Report, Fault>, Connection<S>), BenchFault>
-    ensures { IfOk result (λ it. IfOk it.0 (λ report. MayEnd work.now report.status)) }
+) -> Result<Worked<S>, BenchFault>
+    ensures { IfOk result (λ it. IfOk it.report (λ report. MayEnd work.now report.status)) }
 {
+    settle_named(rt.alloc(), &mut store, &mut shelf, streams)?;
     if !store.is_autocommit() {
         return Err(BenchFault::Store);
     }
@@ -117,6 +167,42 @@ fn heed_failure<I, O, E>(
     }
 }
 
+// Opens the bench of a registry, which carries out what is pending, and closes it.
+fn carry_out<I, O, E>(
+    rt: &HostRuntime,
+    registry: &str,
+    mut shelf: FileShelf<HostRuntime>,
+    streams: &mut Streams<'_, I, O, E>,
+) -> Result<(), Fault> {
+    let mut store = open_store(rt, registry).map_err(StoreFault::from)?;
+    settle_named(rt.alloc(), &mut store, &mut shelf, streams)?;
+    if !store.is_autocommit() {
+        return Err(Fault::Bench(BenchFault::Store));
+    }
+    match Bench::open(rt.alloc(), store, shelf) {
+        Ok(bench) => {
+            let (store, _) = bench.close();
+            Ok(store.close().map_err(StoreFault::from)?)
+        }
+        Err(e) => Err(Fault::Bench(e.fault)),
+    }
+}
+
+// Opens a bench anew after a fault, with the shelf that the fault left, so that no command that was
+// answered waits for a later opening. If that fails too, it says what is pending.
+fn open_again<I, O, E: Write>(
+    rt: &HostRuntime,
+    registry: &str,
+    shelf: FileShelf<HostRuntime>,
+    streams: &mut Streams<'_, I, O, E>,
+) {
+    let failure = streams.explaining.failure;
+    if carry_out(rt, registry, shelf, streams).is_err() {
+        complain_of_pending(rt, registry, streams.complaints);
+    }
+    streams.explaining.failure = failure;
+}
+
 // Has the work done at a store of two files, and closes it. Of two faults the first is told.
 fn at_files<D: Disk + Drop, I: BufRead, O: Write, E: Write>(
     rt: &HostRuntime,
@@ -128,11 +214,18 @@ fn at_files<D: Disk + Drop, I: BufRead, O: Write, E: Write>(
 ) -> Result<Report, Fault>
     ensures { IfOk result (λ report. MayEnd work.now report.status) }
 {
-    let (report, store) = at_bench(rt, store, shelf, work, streams)?;
+    let Worked {
+        report,
+        store,
+        shelf,
+    } = at_bench(rt, store, shelf, work, streams)?;
     let closed = store.close();
     if let Err(error) = closed {
         let cause = cause_of(rt, registry, error);
         streams.explaining.trouble = cause.and_then(|cause| cause.trouble(rt.alloc(), registry));
+    }
+    if let Some(shelf) = shelf {
+        open_again(rt, registry, shelf, streams);
     }
     let report = report?;
     closed.map_err(StoreFault::from)?;
