@@ -5,9 +5,11 @@
 //! registry as it stands (`specs/Looks.antt` says how they end), with `pending.rt` for what is
 //! pending as JSON, and `comparing.rt` compares data.
 //! `checking.rt` looks at all of it at once, and `checked.rt` tells what was found
-//! (`specs/Checks.antt`). `flaws.rt` has the lines of data that differ.
+//! (`specs/Checks.antt`). `flaws.rt` has the lines of data that differ. `blocked.rt` says what waits
+//! for an image that fails.
 #![tactic(auto)]
 
+mod blocked;
 mod checked;
 mod checking;
 mod comparing;
@@ -16,6 +18,7 @@ mod pending;
 mod read_only;
 mod taste;
 
+pub use blocked::way_on;
 pub use checking::{check_place, check_shelf};
 pub use comparing::scrub;
 pub use read_only::{complain_of_pending, look_at, show_pending, show_pending_at};

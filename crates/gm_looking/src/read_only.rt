@@ -149,12 +149,20 @@ pub fn show_pending_at<I, O: Write, E>(
     Ok(report.status)
 }
 
+/// What a registry holds as it stands, if that can be read.
+pub(crate) fn loaded_at(rt: &HostRuntime, registry: &str) -> Option<Loaded> {
+    match records_of(rt, registry) {
+        Ok(whole) => Some(whole.loaded),
+        Err(_) => None,
+    }
+}
+
 /// Complains of what an opening of the registry would carry out, if that can be read.
 pub fn complain_of_pending<E: Write>(rt: &HostRuntime, registry: &str, complaints: &mut E) {
-    let Ok(whole) = records_of(rt, registry) else {
+    let Some(records) = loaded_at(rt, registry) else {
         return;
     };
-    if let Ok(text) = pending_text(rt.alloc(), &whole.loaded.intents) {
+    if let Ok(text) = pending_text(rt.alloc(), &records.intents) {
         let _ = complaints.write_all(text.as_bytes());
     }
 }

@@ -24,6 +24,8 @@ pub struct Explaining {
     pub trouble: Option<Trouble>,
     /// Which image failed last, and why, if one has.
     pub failure: Option<ImageFailure>,
+    /// How one goes on after a fault, in lines, if that is known.
+    pub way_on: Option<String>,
 }
 
 impl Explaining {
@@ -36,6 +38,7 @@ impl Explaining {
             folder: String::new(alloc),
             trouble: None,
             failure: None,
+            way_on: None,
         }
     }
 

@@ -10,7 +10,7 @@ use crate::recover::{recovered_without, refused_without};
 use gm_bench::{Bench, BenchFault, Without};
 use gm_command_line::{Form, Work};
 use gm_faults::{Fault, explain_loss};
-use gm_looking::complain_of_pending;
+use gm_looking::{complain_of_pending, way_on};
 use gm_metadata::Label;
 use gm_process::{HeldFolder, Patience, Place, Status, Streams};
 use gm_registry::{StoreFault, named_images};
@@ -151,6 +151,21 @@ fn at_bench<S: Alter + Drop, I: BufRead, O: Write, E: Write>(
             form,
         } => without(rt.alloc(), store, shelf, provider, key, form, streams),
         _ => worked(rt, store, shelf, work, streams),
+    }
+}
+
+// Keeps what waits for an image that failed, if a pending write is about it.
+fn heed_waiting<I, O, E>(
+    rt: &HostRuntime,
+    place: Place<'_>,
+    fault: &Fault,
+    streams: &mut Streams<'_, I, O, E>,
+) {
+    if !streams.explaining.wanted || *fault != Fault::Bench(BenchFault::Disk) {
+        return;
+    }
+    if let Some(failure) = streams.explaining.failure {
+        streams.explaining.way_on = way_on(rt, place, failure.image);
     }
 }
 
@@ -358,7 +373,13 @@ pub fn work_at<I: BufRead, O: Write, E: Write>(
 {
     let images = images_at(rt, place.folder, terms.patience);
     let (_held, shelf) = streams.explaining.heed(rt, place.folder, images)?;
-    let report = report_of(rt, place.registry, shelf, terms, work, streams)?;
+    let report = match report_of(rt, place.registry, shelf, terms, work, streams) {
+        Ok(report) => report,
+        Err(fault) => {
+            heed_waiting(rt, place, &fault, streams);
+            return Err(fault);
+        }
+    };
     streams.output.write_all(report.text.as_bytes())?;
     Ok(report.status)
 }
