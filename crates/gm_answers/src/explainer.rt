@@ -9,7 +9,7 @@ use gm_front::{Listener, Outcome};
 use gm_lines::pieces;
 use gm_looks::Unlike;
 use gm_metadata::Label;
-use gm_process::Explaining;
+use gm_process::{Explaining, legible_name};
 use gm_refusals::{CallRefusal, Refusal};
 use gm_sentences::{About, Image, call_sentence, images_in_a_row};
 use gm_state::State;
@@ -115,6 +115,16 @@ impl<'a, E: Write> Explainer<'a, E> {
         }
     }
 
+    // The same, though a word may have line feeds.
+    fn sentence_in_line(
+        &self,
+        words: &[&str],
+        why: Option<CallRefusal>,
+    ) -> Result<String, AllocError> {
+        let sentence = self.sentence(words, why)?;
+        legible_name(self.folder.alloc(), sentence.as_str())
+    }
+
     fn say(&mut self, key: &str, number: u8, sentence: &str) {
         let _ = writeln!(self.complaints, "{key}: refused {number}: {sentence}");
     }
@@ -146,7 +156,7 @@ impl<'a, E: Write> Explainer<'a, E> {
             Outcome::Answered(key, Answer::Refused(why)) => (key, why.number(), Some(why)),
             _ => return,
         };
-        if let Ok(sentence) = self.sentence(words, why) {
+        if let Ok(sentence) = self.sentence_in_line(words, why) {
             self.say(key, number, sentence.as_str());
         }
     }

@@ -10,7 +10,9 @@ use crate::by_itself::hand_in_by_itself;
 use gm_bench::Bench;
 use gm_command_line::{Checks, Form, Single, Unnumbered};
 use gm_faults::Fault;
+use gm_handing_in::whole_sentence;
 use gm_looks::taste_shelf;
+use gm_losses::whole_among;
 use gm_metadata::Label;
 use gm_process::{Status, Streams};
 use gm_shelf::{FileShelf, Shelf};
@@ -103,6 +105,38 @@ fn say_left<O: Write>(output: &mut O, name: Label, why: Left) -> io::Result<()> 
     }
 }
 
+// The images that are whole, if the mirror's source is DIRTY.
+fn whole_of(alloc: Global, group: &Group) -> Result<Vec<Label>, AllocError> {
+    let providers: Vec<Label> = group
+        .members
+        .iter()
+        .filter(|member| is_adoptable(member))
+        .map(|member| member.provider)
+        .collect(alloc)?;
+    whole_among(alloc, &group.members, &providers)
+}
+
+// Whether a mirror is left because its source is DIRTY and images of it are whole, unless that is
+// forced. It then says which line adopts these.
+fn is_left_for_whole<O: Write>(
+    alloc: Global,
+    group: &Group,
+    checks: Checks,
+    output: &mut O,
+) -> Result<bool, Fault> {
+    if !checks.losses {
+        return Ok(false);
+    }
+    let whole = whole_of(alloc, group)?;
+    if whole.is_empty() {
+        return Ok(false);
+    }
+    let name = group.name;
+    let sentence = whole_sentence(alloc, name, &whole)?;
+    writeln!(output, "{name} left: {sentence}")?;
+    Ok(true)
+}
+
 // The words of the command that adopts a mirror.
 fn words_of(alloc: Global, group: &Group) -> Result<Vec<&str>, AllocError> {
     let mut words = Vec::new(alloc);
@@ -160,17 +194,19 @@ fn adopt_or_leave<S: Alter, H: Shelf, I: BufRead, O: Write, E: Write>(
     if is_registered(&state, group) {
         return Ok(Status::Done);
     }
-    match left_because(groups, group) {
-        Some(why) => {
-            say_left(streams.output, group.name, why)?;
-            Ok(Status::Refused)
-        }
-        None => adopt(rt, group, checks, bench, streams),
+    if let Some(why) = left_because(groups, group) {
+        say_left(streams.output, group.name, why)?;
+        return Ok(Status::Refused);
     }
+    if is_left_for_whole(rt.alloc(), group, checks, streams.output)? {
+        return Ok(Status::Refused);
+    }
+    adopt(rt, group, checks, bench, streams)
 }
 
 /// Adopts each mirror that the images of the folder show whole, under keys of gmbench's own, and
-/// names the others. It is refused if one is left or refused.
+/// names the others. One whose source is DIRTY is left if another image of it is whole, unless that
+/// is forced. It is refused if one is left or refused.
 pub fn adopt_all<S: Alter, H: Shelf, I: BufRead, O: Write, E: Write>(
     rt: &HostRuntime,
     checks: Checks,

@@ -3,17 +3,19 @@
 //!
 //! `single.rt` hands in one command (`do`), `batch.rt` those of an input, and `serving.rt` those
 //! that come over connections; each says how the program ends then (`specs/Ends.antt`). What is
-//! told of a command is in `gm_answers`. `lost_by.rt` says what would be lost by a command, and
-//! `insistence.rt` asks whether it is carried out all the same.
+//! told of a command is in `gm_answers`. `lost_by.rt` finds what would be lost by a command,
+//! `loss_sentences.rt` says it, and `insistence.rt` asks whether it is carried out all the same.
 #![tactic(auto)]
 
 mod batch;
 mod insistence;
+mod loss_sentences;
 mod lost_by;
 mod serving;
 mod single;
 
 pub use batch::{Lines, hand_in, hand_in_lines_of, hand_in_text};
 pub use insistence::is_wanted;
+pub use loss_sentences::whole_sentence;
 pub use serving::serve;
 pub use single::{One, hand_in_one};

@@ -5,6 +5,7 @@ ghost use Rattle.gm_bench.specs.Benches.{progress_of};
 ghost use Rattle.gm_bench.specs.Phases.{TakesCommands};
 
 use crate::insistence::is_wanted;
+use crate::loss_sentences::sentences_of;
 use gm_bench::Bench;
 use gm_command_line::Form;
 use gm_commands::Command;
@@ -16,7 +17,6 @@ use gm_refusals::providers_of;
 use gm_shelf::{FileShelf, Shelf, ShelfFault};
 use gm_state::State;
 use sqlite::Alter;
-use std::alloc::{AllocError, Global};
 use std::io::{self, BufRead, Write};
 
 // The images that are to be looked at for a command: those that it names, or all of the folder if
@@ -50,49 +50,6 @@ fn losses_of<I, O, E: Write>(
     }
 }
 
-// What is lost, in a sentence.
-fn sentence(alloc: Global, loss: &Loss) -> Result<String, AllocError> {
-    match loss {
-        Loss::LastSector { provider } => format!(in alloc;
-            "{provider} holds data in its last sector: lengthen it by truncate -s +512"
-        ),
-        Loss::Database { provider } => {
-            format!(in alloc; "{provider} is a database of SQLite, a registry perhaps")
-        }
-        Loss::Data { provider, place } => format!(in alloc;
-            "{provider} holds data, first in sector {place}: a sync writes over all of it"
-        ),
-        Loss::Intact { provider } => format!(in alloc;
-            "{provider} is there, and as it is registered: remove takes it out"
-        ),
-        Loss::Left {
-            provider,
-            newer: true,
-        } => format!(in alloc;
-            "{provider} is of the same mirror and newer: adopt it too, or its data are lost"
-        ),
-        Loss::Left {
-            provider,
-            newer: false,
-        } => format!(in alloc; "{provider} is of the same mirror: adopt it too"),
-        Loss::OnlyCopy { provider } => format!(in alloc;
-            "{provider} alone would be ACTIVE, while others aren't filled: sync first"
-        ),
-        Loss::Mirror { components } => format!(in alloc;
-            "the mirror has {components} components, and the metadata of all are cleared"
-        ),
-    }
-}
-
-// All that is lost, in a sentence each.
-fn sentences_of(alloc: Global, losses: &[Loss]) -> Result<Vec<String>, AllocError> {
-    let mut sentences = Vec::new(alloc);
-    for loss in losses {
-        sentences.push(sentence(alloc, loss)?)?;
-    }
-    Ok(sentences)
-}
-
 /// Whether nothing is lost by a command, or whoever runs the program wants it all the same; else it
 /// prints that the command isn't done, and what would be lost. The bench is asked for the mirrors
 /// alone.
@@ -113,6 +70,6 @@ pub(crate) fn lets_go<S: Alter, H: Shelf, I: BufRead, O: Write, E: Write>(
     if found.is_empty() {
         return Ok(true);
     }
-    let sentences = sentences_of(alloc, &found)?;
+    let sentences = sentences_of(alloc, command, &found)?;
     is_wanted(alloc, key, form, &sentences, streams)
 }

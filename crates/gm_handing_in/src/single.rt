@@ -7,7 +7,7 @@ ghost use Rattle.gm_front.specs.Outcomes.{is_refused};
 ghost use Rattle.gm_process.specs.Statuses.{MayRefuse, status_of_refused};
 
 use crate::lost_by::lets_go;
-use gm_answers::{Explainer, outcome_in, say_tip, withheld_in};
+use gm_answers::{Explainer, outcome_in, print_outcome, say_tip, withheld_in};
 use gm_bench::Bench;
 use gm_command_line::{Checks, Form};
 use gm_commands::is_key;
@@ -91,8 +91,7 @@ fn tell<S: Alter, H: Shelf, I, O: Write, E: Write>(
 {
     let alloc = rt.alloc();
     let text = outcome_in(alloc, one.form, outcome)?;
-    streams.output.write_all(text.as_bytes())?;
-    streams.output.flush()?;
+    print_outcome(text.as_str(), outcome, streams)?;
     let state = match outcome.is_refused() && streams.explaining.wanted {
         true => bench.view(alloc).ok(),
         false => None,

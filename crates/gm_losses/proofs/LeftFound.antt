@@ -1,11 +1,12 @@
--- Which images are left of a mirror that is adopted.
-use Rattle.gm_losses.proofs.Common.{◌≡◌, ◌∙◌, ◌↔◌, inl, inr, ℕ, ◌<◌, ◌||◌, ◌&&◌, not, nat_lt, Bool, true, false, refl, sym, ap, subst, arith, List, filter, find, Option, Some, None, Ok, list_all, and_from, and_parts, cases_Bool, lt-ltb, ltb-true, or_parts, Image, Sizes, same_label, Has, any_from, found, found_none, not_both, some_any, AscendsBy-filter_map, Has-filter, Has-filter_map, filter-Has, filter_map-Has, same_from, same_is, Group, behind, state_of, IsMember, IsTasted, SaysOf, verdict, last_of, Records, AreShown, IsShown, some_other, has_member, is_adopted, is_broken, is_named, is_newest, left_among, left_as, left_of, IsBroken, IsLeft, IsOfMirror, Says, is_newer, AreJust, LosesLeft, provider_of, Loss, Left}
+-- Which images are left of a mirror that is adopted, and which are whole beside its source.
+use Rattle.gm_losses.proofs.Common.{◌≡◌, ◌∙◌, ◌↔◌, ◌⊎◌, ◌==◌, inl, inr, ⊎_elim, eq-eqb, eqb-true, list_any, ℕ, ◌<◌, ◌||◌, ◌&&◌, not, nat_lt, Bool, true, false, refl, sym, ap, subst, arith, List, filter, find, Option, Some, None, Ok, list_all, and_from, and_parts, cases_Bool, lt-ltb, ltb-true, or_parts, Image, Sizes, same_label, Has, any_from, found, found_none, not_both, some_any, AscendsBy-filter_map, Has-filter, Has-filter_map, filter-Has, filter_map-Has, same_from, same_is, Group, behind, state_of, IsMember, IsTasted, SaysOf, verdict, last_of, Records, AreShown, IsShown, some_other, has_member, is_adopted, is_broken, is_named, is_newest, is_no_loss, is_torn, is_whole_beside, is_whole_with, is_dirty_beside, left_among, left_as, left_of, sources_among, AreOfMirror, IsBroken, IsLeft, IsOfMirror, IsTorn, IsWholeBeside, Says, is_newer, is_whole, AreJust, LosesAdopted, LosesLeft, LosesWhole, provider_of, Loss, Left, Whole}
 use Rattle.gm_metadata.specs.declared.metadata.Metadata.{Metadata}
 use Rattle.gm_lists.proofs.Sorting.{all_has, has_all}
 use Rattle.gm_taste.specs.declared.provider.Provider.{Provider}
 use Rattle.gm_taste.specs.declared.tasted.Member.{Member}
 use Rattle.gm_taste.specs.declared.tasted.Tasted.{Tasted}
 use Rattle.gm_losses.proofs.Listed.{in_order, none_lost}
+use Rattle.gm_losses.proofs.SourceFound.{source_tells, tells_source}
 
 -- ---- whether a member is BROKEN
 
@@ -143,6 +144,45 @@ module _ (size : Sizes) (seen : Image) where
           ∙ broken_from g.genid g.syncid x.metadata b.takes_part
           (let low = b.behind in omega (arith, bound))
 
+      -- ---- whether a member is torn
+
+      torn_told : (x : Member) → Has g.members.items x → is_torn g.members.items x ≡ true
+          → IsTorn size seen x.metadata
+      torn_told x h e =
+          let is = is_member x h in
+          let parts = and_parts x.metadata.dflags.dirty
+          (list_any (is_whole_with x) g.members.items) e in
+          let y = some_any (is_whole_with x) g.members.items parts.1 in
+          let whole = and_parts (is_whole y.0.metadata)
+          (y.0.metadata.genid == x.metadata.genid) y.2 in
+          let other = is_member y.0 y.1 in
+          record {
+            dirty = parts.0;
+            provider = y.0.provider;
+            other = y.0.metadata;
+            of = record {
+              says = says_member y.0 y.1;
+              name_is = other.name_is ∙ sym is.name_is;
+              mid_is = other.mid_is ∙ sym is.mid_is;
+            };
+            whole = whole.0;
+            genid_is = eqb-true y.0.metadata.genid x.metadata.genid whole.1;
+          }
+
+      told_torn : (x : Member) → Has g.members.items x → IsTorn size seen x.metadata
+          → is_torn g.members.items x ≡ true
+      told_torn x h torn =
+          let is = is_member x h in
+          let other = member_of torn.provider torn.other (record {
+            says = torn.of.says;
+            name_is = torn.of.name_is ∙ is.name_is;
+            mid_is = torn.of.mid_is ∙ is.mid_is;
+          }) in
+          and_from x.metadata.dflags.dirty (list_any (is_whole_with x) g.members.items) torn.dirty
+          (any_from (is_whole_with x) g.members.items (as_member torn.provider torn.other) other
+          (and_from (is_whole torn.other) (torn.other.genid == x.metadata.genid) torn.whole
+          (eq-eqb torn.other.genid x.metadata.genid torn.genid_is)))
+
     -- ---- a group that is adopted
 
     module _ (name : List ℕ) (ps : List (List ℕ)) where
@@ -210,121 +250,266 @@ module _ (size : Sizes) (seen : Image) where
             newest z.provider z.metadata (named_has z in_group.1)
             (says_member g there z in_group.0))
 
-        -- a member that is told of is left
-        left_told : (x : Member) → Has g.members.items x → is_named ps x ≡ false
-            → is_broken x.state ≡ false
-            → IsLeft size seen name ps x.provider (is_newest g.members.items ps x)
-        left_told x h unnamed current =
+        -- ---- which members are whole beside a DIRTY source
+
+        abbrev sources : List Member
+        sources = sources_among g.members.items ps
+
+        abbrev named : List Member
+        named = filter (is_named ps) g.members.items
+
+        named_there : (x : Member) → Has named x
+            → Has ps x.provider × Says size seen x.provider x.metadata
+        named_there x h =
+            let in_group = Has-filter (is_named ps) g.members.items x h in
+            (named_has x in_group.1, says_member g there x in_group.0)
+
+        all_named : (q : List ℕ) (d : Metadata) → Has ps q → Says size seen q d
+            → (x : Member) × Has named x × (x.provider ≡ q) × (x.metadata ≡ d)
+        all_named q d h says =
+            let y = named_member q h in (
+              y.0,
+              filter-Has (is_named ps) g.members.items y.0 y.1
+                  (has_named y.0 (subst (Has ps) (sym y.2) h)),
+              y.2,
+              says_once q y.0.metadata d (named_says q h).says says,
+            )
+
+        -- a member is of the mirror, and so are the images that are named
+        of_mirror : (x : Member) → Has g.members.items x
+            → IsOfMirror size seen name x.metadata.mid x.provider x.metadata
+        of_mirror x h =
             let is = is_member g there x h in
             record {
+              says = says_member g there x h;
+              name_is = is.name_is ∙ named_so;
+              mid_is = refl;
+            }
+
+        are_of_mirror : (x : Member) → Has g.members.items x
+            → AreOfMirror size seen name x.metadata.mid ps
+        are_of_mirror x h q k =
+            let is = is_member g there x h in (
+              (named_member q k).0.metadata,
+              record {
+                says = (named_says q k).says;
+                name_is = (named_says q k).name_is;
+                mid_is = (named_says q k).mid_is ∙ sym is.mid_is;
+              },
+            )
+
+        whole_told : (x : Member) → Has g.members.items x → is_whole_beside sources x ≡ true
+            → IsWholeBeside size seen name ps x.provider
+        whole_told x h e =
+            let parts = and_parts (is_whole x.metadata)
+            (list_any (is_dirty_beside x) sources) e in
+            let b = some_any (is_dirty_beside x) sources parts.1 in
+            let dirty = and_parts b.0.metadata.dflags.dirty
+            (b.0.metadata.genid == x.metadata.genid) b.2 in
+            record {
               metadata = x.metadata;
-              of = record {
-                says = says_member g there x h;
-                name_is = is.name_is ∙ named_so;
-                mid_is = refl;
-              };
-              named = λ q k. (
-                (named_member q k).0.metadata,
-                record {
-                  says = (named_says q k).says;
-                  name_is = (named_says q k).name_is;
-                  mid_is = (named_says q k).mid_is ∙ sym is.mid_is;
-                },
-              );
-              other = λ k. not_both (is_named ps x) (has_named x k) unnamed;
-              current = λ b. not_both (is_broken x.state) (told_broken g there x h b) current;
+              of = of_mirror x h;
+              named = are_of_mirror x h;
+              whole = parts.0;
+              source = b.0.provider;
+              said = b.0.metadata;
+              source_is = source_tells size seen ps named named_there all_named b.0 b.1;
+              dirty = dirty.0;
+              genid_is = eqb-true b.0.metadata.genid x.metadata.genid dirty.1;
+            }
+
+        -- ---- which members are left
+
+        unneeded : (x : Member) → is_no_loss g.members.items ps x ≡ false
+            → (is_named ps x ≡ false) × (is_broken x.state ≡ false)
+            × (is_torn g.members.items x ≡ false)
+        unneeded x e =
+            let apart = or_parts (is_named ps x)
+            (is_broken x.state || is_torn g.members.items x) e in
+            let rest = or_parts (is_broken x.state) (is_torn g.members.items x) apart.1 in
+            (apart.0, rest.0, rest.1)
+
+        left_told : (x : Member) → Has g.members.items x
+            → is_no_loss g.members.items ps x ≡ false
+            → IsLeft size seen name ps x.provider (is_newest g.members.items ps x)
+        left_told x h lost =
+            let apart = unneeded x lost in
+            record {
+              metadata = x.metadata;
+              of = of_mirror x h;
+              named = are_of_mirror x h;
+              other = λ k. not_both (is_named ps x) (has_named x k) apart.0;
+              current = λ b. not_both (is_broken x.state) (told_broken g there x h b) apart.1;
+              needed = λ k. not_both (is_torn g.members.items x) (told_torn g there x h k) apart.2;
               newer_is = (newest_tells x, tells_newest x);
             }
 
-        -- an image that is left is a member that is told of
-        module _ (q : List ℕ) (first : Has ps q) (p : List ℕ) (newer : Bool)
-            (left : IsLeft size seen name ps p newer) where
+        -- an image of a mirror of which all of these are is a member
+        module _ (q : List ℕ) (first : Has ps q) (p : List ℕ) (d : Metadata)
+            (of : IsOfMirror size seen name d.mid p d)
+            (all : AreOfMirror size seen name d.mid ps) where
           -- the group is that of its mirror
-          same_mid : left.metadata.mid ≡ g.mid
+          same_mid : d.mid ≡ g.mid
           same_mid =
-              let of = (left.named q first).1 in
+              let theirs = (all q first).1 in
               let mine = named_says q first in
-              sym of.mid_is
-              ∙ (ap (λ (d : Metadata). d.mid) (says_once q (left.named q first).0
-              (named_member q first).0.metadata of.says mine.says) ∙ mine.mid_is)
+              sym theirs.mid_is
+              ∙ (ap (λ (e : Metadata). e.mid) (says_once q (all q first).0
+              (named_member q first).0.metadata theirs.says mine.says) ∙ mine.mid_is)
 
           abbrev it : Member
-          it = as_member g there p left.metadata
+          it = as_member g there p d
 
           is_in : Has g.members.items it
-          is_in = member_of g there p left.metadata (record {
-            says = left.of.says;
-            name_is = left.of.name_is ∙ sym named_so;
+          is_in = member_of g there p d (record {
+            says = of.says;
+            name_is = of.name_is ∙ sym named_so;
             mid_is = same_mid;
           })
 
-          unnamed : is_named ps it ≡ false
-          unnamed = elim (cases_Bool (is_named ps it)) [
-            | inl e ↦ absurd (left.other (named_has it e))
+        -- an image that is whole beside a DIRTY source is told of
+        module _ (q : List ℕ) (first : Has ps q) (p : List ℕ)
+            (w : IsWholeBeside size seen name ps p) where
+          abbrev whole_one : Member
+          whole_one = it q first p w.metadata w.of w.named
+
+          whole_is : is_whole_beside sources whole_one ≡ true
+          whole_is =
+              let b = tells_source size seen ps named named_there all_named w.source w.said
+              w.source_is in
+              let passes : (m : Metadata) → m ≡ w.said
+              → m.dflags.dirty && (m.genid == w.metadata.genid) ≡ true = λ m e.
+              rw e (and_from w.said.dflags.dirty (w.said.genid == w.metadata.genid) w.dirty
+              (eq-eqb w.said.genid w.metadata.genid w.genid_is)) in
+              and_from (is_whole w.metadata) (list_any (is_dirty_beside whole_one) sources) w.whole
+              (any_from (is_dirty_beside whole_one) sources b.0 b.1 (passes b.0.metadata b.2))
+
+          whole_as_is : left_as g.members.items ps sources whole_one ≡ Some (Whole p)
+          whole_as_is = rw whole_is refl
+
+        -- an image that is left is a member that is told of
+        module _ (q : List ℕ) (first : Has ps q) (p : List ℕ) (newer : Bool)
+            (left : IsLeft size seen name ps p newer)
+            (apart : IsWholeBeside size seen name ps p → ⊥) where
+          abbrev left_one : Member
+          left_one = it q first p left.metadata left.of left.named
+
+          left_in : Has g.members.items left_one
+          left_in = is_in q first p left.metadata left.of left.named
+
+          unnamed : is_named ps left_one ≡ false
+          unnamed = elim (cases_Bool (is_named ps left_one)) [
+            | inl e ↦ absurd (left.other (named_has left_one e))
             | inr e ↦ e
           ]
 
-          unbroken : is_broken it.state ≡ false
-          unbroken = elim (cases_Bool (is_broken it.state)) [
-            | inl e ↦ absurd (left.current (broken_told g there it is_in e))
+          unbroken : is_broken left_one.state ≡ false
+          unbroken = elim (cases_Bool (is_broken left_one.state)) [
+            | inl e ↦ absurd (left.current (broken_told g there left_one left_in e))
             | inr e ↦ e
           ]
 
-          as_new : is_newest g.members.items ps it ≡ newer
+          untorn : is_torn g.members.items left_one ≡ false
+          untorn = elim (cases_Bool (is_torn g.members.items left_one)) [
+            | inl e ↦ absurd (left.needed (torn_told g there left_one left_in e))
+            | inr e ↦ e
+          ]
+
+          unlike_whole : is_whole_beside sources left_one ≡ false
+          unlike_whole = elim (cases_Bool (is_whole_beside sources left_one)) [
+            | inl e ↦ absurd (apart (whole_told left_one left_in e))
+            | inr e ↦ e
+          ]
+
+          as_new : is_newest g.members.items ps left_one ≡ newer
           as_new = one_answer newer left.newer_is
             where
               one_answer : (b : Bool) → (b ≡ true) ↔ IsNewest left.metadata
-                  → is_newest g.members.items ps it ≡ b
-              one_answer true tells = tells_newest it (tells.0 refl)
-              one_answer false tells = elim (cases_Bool (is_newest g.members.items ps it)) [
-                | inl e ↦ (let never : false ≡ true = tells.1 (newest_tells it e) in cc)
+                  → is_newest g.members.items ps left_one ≡ b
+              one_answer true tells = tells_newest left_one (tells.0 refl)
+              one_answer false tells = elim (cases_Bool (is_newest g.members.items ps left_one)) [
+                | inl e ↦ (let never : false ≡ true = tells.1 (newest_tells left_one e) in cc)
                 | inr e ↦ e
               ]
 
-          left_is : left_as g.members.items ps it ≡ Some (Left p newer)
-          left_is = rw (unnamed, unbroken) (ap (λ (b : Bool). Some (Left p b)) as_new)
+          left_is : left_as g.members.items ps sources left_one ≡ Some (Left p newer)
+          left_is = rw (unlike_whole, unnamed, unbroken, untorn)
+              (ap (λ (b : Bool). Some (Left p b)) as_new)
 
         -- ---- what is told of the group
 
         module _ (s : Records) where
           abbrev IsOne : Loss → Type 0
-          IsOne x = LosesLeft s size seen name ps x
+          IsOne x = LosesAdopted s size seen name ps x
+
+          -- what is told of a member, and why
+          abbrev Told : Member → Loss → Type 0
+          Told y x = ((is_whole_beside sources y ≡ true) × (x ≡ Whole y.provider))
+              ⊎ ((is_whole_beside sources y ≡ false) × (is_no_loss g.members.items ps y ≡ false)
+              × (x ≡ Left y.provider (is_newest g.members.items ps y)))
+
+          told_of : (y : Member) (x : Loss) → left_as g.members.items ps sources y ≡ Some x
+              → Told y x
+          told_of y x e = elim (cases_Bool (is_whole_beside sources y)) [
+            | inl whole ↦ (let some : Some (Whole y.provider) ≡ Some x = rw whole at e in
+                let is : x ≡ Whole y.provider = cc in inl (whole, is))
+            | inr other ↦ elim (cases_Bool (is_no_loss g.members.items ps y)) [
+              | inl out ↦ (let none : None ≡ Some x = rw (other, out) at e in
+                  absurd (let never : ⊥ = cc in never))
+              | inr lost ↦ (let some : Some (Left y.provider (is_newest g.members.items ps y))
+                  ≡ Some x = rw (other, lost) at e in
+                  let is : x ≡ Left y.provider (is_newest g.members.items ps y) = cc in
+                  inr (other, lost, is))
+            ]
+          ]
+
+          -- one that isn't told as whole isn't so
+          not_whole : (y : Member) → Has g.members.items y → is_whole_beside sources y ≡ false
+              → IsWholeBeside size seen name ps y.provider → ⊥
+          not_whole y h e w =
+              let q = w.source_is.active.named in
+              let z = whole_one w.source q y.provider w in
+              let same : z.metadata ≡ y.metadata =
+              says_once y.provider z.metadata y.metadata w.of.says (says_member g there y h) in
+              let whole : is_whole_beside sources z ≡ true =
+              whole_is w.source q y.provider w in
+              not_both (is_whole_beside sources y)
+              (subst (λ (m : Metadata). is_whole m && list_any (λ (b : Member).
+              b.metadata.dflags.dirty && (b.metadata.genid == m.genid)) sources ≡ true) same whole) e
 
           told_one : (x : Loss) → Has (left_of ps (Some g)) x → IsOne x
           told_one x h =
-              let from = Has-filter_map (left_as g.members.items ps) g.members.items x h in
+              let from = Has-filter_map (left_as g.members.items ps sources) g.members.items x h in
               let y = from.0 in
-              elim (cases_Bool (is_named ps y || is_broken y.state)) [
-                | inl e ↦ (let none : None ≡ Some x = rw e at from.2 in
-                    absurd (let never : ⊥ = cc in never))
-                | inr e ↦
-                    let apart = or_parts (is_named ps y) (is_broken y.state) e in
-                    let some : Some (Left y.provider (is_newest g.members.items ps y)) ≡ Some x =
-                    rw e at from.2 in
-                    let is : x ≡ Left y.provider (is_newest g.members.items ps y) = cc in (
-                      y.provider,
-                      is_newest g.members.items ps y,
-                      is,
-                      left_told y from.1 apart.0 apart.1,
-                    )
+              elim (told_of y x from.2) [
+                | inl t ↦ inl (y.provider, t.1, whole_told y from.1 t.0)
+                | inr t ↦ inr (
+                  y.provider,
+                  is_newest g.members.items ps y,
+                  t.2,
+                  left_told y from.1 t.1,
+                  not_whole y from.1 t.0,
+                )
               ]
 
           one_told : (q : List ℕ) → Has ps q → (x : Loss) → IsOne x
               → Has (left_of ps (Some g)) x
-          one_told q first x h =
+          one_told q first x (inl w) =
+              subst (Has (left_of ps (Some g))) (sym w.1)
+              (filter_map-Has (left_as g.members.items ps sources) g.members.items
+              (whole_one q first w.0 w.2) (Whole w.0)
+              (is_in q first w.0 w.2.metadata w.2.of w.2.named) (whole_as_is q first w.0 w.2))
+          one_told q first x (inr h) =
               subst (Has (left_of ps (Some g))) (sym h.2)
-              (filter_map-Has (left_as g.members.items ps) g.members.items (it q first h.0 h.1 h.3)
-              (Left h.0 h.1) (is_in q first h.0 h.1 h.3) (left_is q first h.0 h.1 h.3))
+              (filter_map-Has (left_as g.members.items ps sources) g.members.items
+              (left_one q first h.0 h.1 h.3 h.4) (Left h.0 h.1) (left_in q first h.0 h.1 h.3 h.4)
+              (left_is q first h.0 h.1 h.3 h.4))
 
-          keeps_name : (y : Member) (x : Loss) → left_as g.members.items ps y ≡ Some x
+          keeps_name : (y : Member) (x : Loss) → left_as g.members.items ps sources y ≡ Some x
               → y.provider ≡ provider_of x
-          keeps_name y x e = elim (cases_Bool (is_named ps y || is_broken y.state)) [
-            | inl out ↦ (let none : None ≡ Some x = rw out at e in
-                absurd (let never : ⊥ = cc in never))
-            | inr in_it ↦ (let some : Some (Left y.provider (is_newest g.members.items ps y))
-                ≡ Some x = rw in_it at e in
-                let is : Left y.provider (is_newest g.members.items ps y) ≡ x = cc in
-                ap provider_of is)
+          keeps_name y x e = elim (told_of y x e) [
+            | inl t ↦ sym (ap provider_of t.1)
+            | inr t ↦ sym (ap provider_of t.2)
           ]
 
           pub group_lost : (q : List ℕ) → Has ps q → AreJust IsOne (left_of ps (Some g))
@@ -332,41 +517,44 @@ module _ (size : Sizes) (seen : Image) where
             told = told_one;
             others = one_told q first;
             order = in_order (left_of ps (Some g))
-                (AscendsBy-filter_map (left_as g.members.items ps) (λ x. x.provider) provider_of
-                keeps_name g.members.items (tasted.groups_are g there).members_ascend);
+                (AscendsBy-filter_map (left_as g.members.items ps sources) (λ x. x.provider)
+                provider_of keeps_name g.members.items (tasted.groups_are g there).members_ascend);
           }
 
-      -- the mirror of an image that is left has a group, which is adopted
-      none_left : find (is_adopted name ps) t.groups.items ≡ None → (p : List ℕ) (newer : Bool)
-          → IsLeft size seen name ps p newer → ⊥
-      none_left none p newer left =
-          let d = left.metadata in
-          let group = tasted.all_in_groups p d (says_of p d left.of.says) in
+      -- the mirror of an image, of which all of these are, has a group, which is adopted
+      none_left : find (is_adopted name ps) t.groups.items ≡ None → (p : List ℕ) (d : Metadata)
+          → IsOfMirror size seen name d.mid p d → AreOfMirror size seen name d.mid ps → ⊥
+      none_left none p d mine all =
+          let group = tasted.all_in_groups p d (says_of p d mine.says) in
           let g = group.0 in
           let has : (q : List ℕ) → Has ps q → has_member g.members.items q ≡ true = λ q h.
-          let of = (left.named q h).1 in
+          let of = (all q h).1 in
           any_from (λ (x : Member). same_label x.provider q) g.members.items
-          (as_member g group.1 q (left.named q h).0)
-          (member_of g group.1 q (left.named q h).0 (record {
+          (as_member g group.1 q (all q h).0)
+          (member_of g group.1 q (all q h).0 (record {
             says = of.says;
-            name_is = of.name_is ∙ (sym left.of.name_is ∙ sym group.2);
+            name_is = of.name_is ∙ (sym mine.name_is ∙ sym group.2);
             mid_is = of.mid_is ∙ sym group.3;
           })) (same_from q q refl) in
           not_both (is_adopted name ps g)
           (and_from (same_label g.name name) (list_all (has_member g.members.items) ps)
-          (same_from g.name name (group.2 ∙ left.of.name_is))
+          (same_from g.name name (group.2 ∙ mine.name_is))
           (has_all (has_member g.members.items) ps has))
           (found_none (is_adopted name ps) t.groups.items none g group.1)
 
-      -- what is told of all groups is what is left
+      -- what is told of all groups is what is left or whole
       pub left_lost : (s : Records) (q : List ℕ) → Has ps q
-          → AreJust (LosesLeft s size seen name ps) (left_among t.groups.items name ps)
+          → AreJust (LosesAdopted s size seen name ps) (left_among t.groups.items name ps)
       left_lost s q first = of_found (find (is_adopted name ps) t.groups.items) refl
         where
+          none_lost_of : find (is_adopted name ps) t.groups.items ≡ None → (x : Loss)
+              → LosesAdopted s size seen name ps x → ⊥
+          none_lost_of e x (inl w) = none_left e w.0 w.2.metadata w.2.of w.2.named
+          none_lost_of e x (inr h) = none_left e h.0 h.3.metadata h.3.of h.3.named
+
           of_found : (o : Option Group) → find (is_adopted name ps) t.groups.items ≡ o
-              → AreJust (LosesLeft s size seen name ps) (left_of ps o)
-          of_found None e =
-              none_lost (LosesLeft s size seen name ps) (λ x h. none_left e h.0 h.1 h.3)
+              → AreJust (LosesAdopted s size seen name ps) (left_of ps o)
+          of_found None e = none_lost (LosesAdopted s size seen name ps) (none_lost_of e)
           of_found (Some g) e =
               let at = found (is_adopted name ps) t.groups.items g e in
               group_lost g at.0 at.1 s q first

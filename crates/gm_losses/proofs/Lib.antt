@@ -4,3 +4,4 @@ pub mod FreeLost
 pub mod IntactFound
 pub mod LeftFound
 pub mod Listed
+pub mod SourceFound

@@ -1,15 +1,17 @@
--- The images that are left, as a function of what tasting tells: the form by which code and proofs
--- go. The relation is in `LeftImages`.
-use Rattle.std.specs.Prelude.{ℕ, Bool, false, true, ◌&&◌, ◌||◌, List, [], Option, Some, None, filter, find, if◌then◌else◌}
+-- The images that are left, and those that are whole beside a DIRTY source, as a function of what
+-- tasting tells: the form by which code and proofs go. The relations are in `LeftImages` and
+-- `WholeImages`.
+use Rattle.std.specs.Prelude.{ℕ, Bool, false, true, not, ◌==◌, ◌&&◌, ◌||◌, List, [], Option, Some, None, filter, find, if◌then◌else◌}
 use Rattle.std.specs.List.{filter_map, list_all, list_any}
 use Rattle.gm_metadata.specs.Images.{same_label}
 use Rattle.gm_taste.specs.declared.tasted.Group.{Group}
 use Rattle.gm_taste.specs.declared.tasted.Member.{Member}
 use Rattle.gm_taste.specs.declared.tasted.MemberState.{MemberState}
 use Rattle.gm_taste.specs.declared.tasted.MemberState.TheVariants.{Broken}
-use Rattle.gm_losses.specs.LeftImages.{is_newer}
+use Rattle.gm_losses.specs.LeftImages.{is_in_use, is_newer, is_whole}
+use Rattle.gm_losses.specs.WholeImages.{goes_first}
 use Rattle.gm_losses.specs.declared.loss.Loss.{Loss}
-use Rattle.gm_losses.specs.declared.loss.Loss.TheVariants.{Left}
+use Rattle.gm_losses.specs.declared.loss.Loss.TheVariants.{Left, Whole}
 
 abbrev pub is_broken : MemberState → Bool
 is_broken Broken = true
@@ -31,16 +33,68 @@ is_adopted name ps g = same_label g.name name && list_all (has_member g.members.
 abbrev pub is_newest : List Member → List (List ℕ) → Member → Bool
 is_newest xs ps x = list_all (λ y. is_newer x.metadata y.metadata) (filter (is_named ps) xs)
 
--- what is said of a member, if it is left
-abbrev pub left_as : List Member → List (List ℕ) → Member → Option Loss
-left_as xs ps x =
-    if is_named ps x || is_broken x.state then None else Some (Left x.provider (is_newest xs ps x))
+-- ---- the source of members, and who is whole beside it
 
--- the images that are left of the group
+-- of these members one is ACTIVE
+abbrev pub is_active_of : List Member → Member → Bool
+is_active_of ys x =
+    is_in_use x.metadata && list_all (λ y. not (is_newer y.metadata x.metadata)) ys
+
+abbrev pub active_of : List Member → List Member
+active_of ys = filter (is_active_of ys) ys
+
+-- none of these goes before it
+abbrev pub is_first_of : List Member → Member → Bool
+is_first_of ys x =
+    list_all (λ y. not (goes_first y.provider y.metadata x.provider x.metadata)) ys
+
+-- the source of these members, if one is ACTIVE
+abbrev pub sources_of : List Member → List Member
+sources_of ys = filter (is_first_of (active_of ys)) (active_of ys)
+
+-- that of those on these providers
+abbrev pub sources_among : List Member → List (List ℕ) → List Member
+sources_among xs ps = sources_of (filter (is_named ps) xs)
+
+-- a source is DIRTY, and has the genid of the member, which is whole
+abbrev pub is_dirty_beside : Member → Member → Bool
+is_dirty_beside x b = b.metadata.dflags.dirty && (b.metadata.genid == x.metadata.genid)
+
+abbrev pub is_whole_beside : List Member → Member → Bool
+is_whole_beside sources x = is_whole x.metadata && list_any (is_dirty_beside x) sources
+
+-- the member is DIRTY, and one of these, with its genid, is whole
+abbrev pub is_whole_with : Member → Member → Bool
+is_whole_with x y = is_whole y.metadata && (y.metadata.genid == x.metadata.genid)
+
+abbrev pub is_torn : List Member → Member → Bool
+is_torn xs x = x.metadata.dflags.dirty && list_any (is_whole_with x) xs
+
+-- the providers of those that are whole beside the source of the members on these
+abbrev pub whole_as : List Member → Member → Option (List ℕ)
+whole_as sources x = if is_whole_beside sources x then Some x.provider else None
+
+abbrev pub whole_among : List Member → List (List ℕ) → List (List ℕ)
+whole_among xs ps = filter_map (whole_as (sources_among xs ps)) xs
+
+-- ---- what is told of members
+
+-- a member isn't left, though it is of the group
+abbrev pub is_no_loss : List Member → List (List ℕ) → Member → Bool
+is_no_loss xs ps x = is_named ps x || (is_broken x.state || is_torn xs x)
+
+-- what is said of a member, if it is whole, or left
+abbrev pub left_as : List Member → List (List ℕ) → List Member → Member → Option Loss
+left_as xs ps sources x =
+    if is_whole_beside sources x then Some (Whole x.provider)
+    else (if is_no_loss xs ps x then None else Some (Left x.provider (is_newest xs ps x)))
+
+-- what is said of the group
 abbrev pub left_of : List (List ℕ) → Option Group → List Loss
 left_of ps None = []
-left_of ps (Some g) = filter_map (left_as g.members.items ps) g.members.items
+left_of ps (Some g) =
+    filter_map (left_as g.members.items ps (sources_among g.members.items ps)) g.members.items
 
--- those of the first group that is adopted
+-- of the first group that is adopted
 abbrev pub left_among : List Group → List ℕ → List (List ℕ) → List Loss
 left_among groups name ps = left_of ps (find (is_adopted name ps) groups)

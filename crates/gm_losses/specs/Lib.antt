@@ -3,3 +3,4 @@ pub mod FreeImages
 pub mod LeftAmong
 pub mod LeftImages
 pub mod Losses
+pub mod WholeImages

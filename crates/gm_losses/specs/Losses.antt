@@ -14,6 +14,7 @@ use Rattle.gm_looks.specs.Audits.{IsAsRegistered}
 use Rattle.gm_losses.specs.Copies.{only_copy}
 use Rattle.gm_losses.specs.FreeImages.{IsFirstData, IsFree, is_database}
 use Rattle.gm_losses.specs.LeftImages.{IsLeft}
+use Rattle.gm_losses.specs.WholeImages.{IsWholeBeside}
 use Rattle.gm_losses.specs.declared.loss.Loss.{Loss}
 use Rattle.gm_losses.specs.declared.loss.Loss.TheVariants as loss
 
@@ -39,10 +40,17 @@ module _ (s : Records) (size : Sizes) (seen : Image) where
   LosesIntact name ps x = (m : Mirror) × (k : Component) × IsOf s m k × (m.name ≡ name)
       × Has ps k.provider × IsAsRegistered size seen m k × (x ≡ loss.Intact k.provider)
 
-  -- of a mirror that is adopted from these: another image of it is left
+  -- of a mirror that is adopted from these: the source is DIRTY, and an image of it is whole
+  abbrev pub LosesWhole : List ℕ → List (List ℕ) → Loss → Type 0
+  LosesWhole name ps x = (p : List ℕ) × (x ≡ loss.Whole p) × IsWholeBeside size seen name ps p
+
+  -- another image of it is left, and not told as one that is whole
   abbrev pub LosesLeft : List ℕ → List (List ℕ) → Loss → Type 0
   LosesLeft name ps x = (p : List ℕ) × (newer : Bool) × (x ≡ loss.Left p newer)
-      × IsLeft size seen name ps p newer
+      × IsLeft size seen name ps p newer × (IsWholeBeside size seen name ps p → ⊥)
+
+  abbrev pub LosesAdopted : List ℕ → List (List ℕ) → Loss → Type 0
+  LosesAdopted name ps x = LosesWhole name ps x ⊎ LosesLeft name ps x
 
   -- of a mirror that the component on p leaves: one copy alone stays, and others are being filled
   abbrev pub LosesCopies : List ℕ → List ℕ → Loss → Type 0
@@ -64,7 +72,7 @@ module _ (s : Records) (size : Sizes) (seen : Image) where
   IsLoss (Deactivate name p) x = LosesCopies name p x
   IsLoss (Destroy name) x = LosesMirror name x
   IsLoss (Lost name ps) x = LosesIntact name ps x
-  IsLoss (Adopt name ps) x = (mirror_of s name ≡ None) × LosesLeft name ps x
+  IsLoss (Adopt name ps) x = (mirror_of s name ≡ None) × LosesAdopted name ps x
   IsLoss _ x = ⊥
 
 -- the provider that a loss is about
@@ -74,6 +82,7 @@ provider_of (loss.Database p) = p
 provider_of (loss.Data p place) = p
 provider_of (loss.Intact p) = p
 provider_of (loss.Left p newer) = p
+provider_of (loss.Whole p) = p
 provider_of (loss.OnlyCopy p) = p
 provider_of (loss.Mirror n) = []
 

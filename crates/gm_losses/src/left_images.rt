@@ -1,39 +1,25 @@
-//! The images that a mirror would leave if it is adopted.
+//! The images that a mirror would leave if it is adopted, or that are whole beside its source.
 
 ghost use Rattle.std.specs.Prelude.{◌≡◌, IfOk};
 ghost use Rattle.std.specs.List.{filter_map, list_all};
 ghost use Rattle.gm_shelf.specs.Keeping.{Looks};
-ghost use Rattle.gm_losses.specs.LeftImages.{is_newer};
-ghost use Rattle.gm_losses.specs.LeftAmong.{has_member, is_adopted, is_broken, is_named, is_newest, left_among, left_as};
+ghost use Rattle.gm_losses.specs.LeftAmong.{has_member, is_adopted, is_broken, is_newest, is_no_loss, left_among, left_as, sources_among};
 ghost use Rattle.gm_losses.specs.Losses.{AreLosses};
 
 use crate::loss::Loss;
+use crate::whole_images::{is_named, is_newer, is_torn, is_whole_beside, sources_among};
 use gm_commands::{Command, Providers};
 use gm_looks::taste_shelf;
-use gm_metadata::{Label, Metadata};
+use gm_metadata::Label;
 use gm_shelf::{Shelf, ShelfFault};
 use gm_state::State;
 use gm_taste::{Group, Member, MemberState};
 use std::alloc::{AllocError, Global};
 
-// Whether the one has a greater genid than the other, or the same and a greater syncid.
-fn is_newer(metadata: &Metadata, other: &Metadata) -> bool
-    ensures { result ≡ is_newer metadata.now other.now }
-{
-    other.genid < metadata.genid || other.genid == metadata.genid && other.syncid < metadata.syncid
-}
-
 fn is_broken(state: MemberState) -> bool
     ensures { result ≡ is_broken state }
 {
     matches!(state, MemberState::Broken)
-}
-
-// Whether the member is on one of these providers.
-fn is_named(providers: &[Label], member: &Member) -> bool
-    ensures { result ≡ is_named providers.now member.now }
-{
-    providers.iter().any(|p| member.provider == *p)
 }
 
 // Whether a member is on this provider.
@@ -67,31 +53,48 @@ fn is_newest(members: &[Member], providers: &[Label], member: &Member) -> bool
         .all(|x| is_newer(&member.metadata, &x.metadata))
 }
 
-// What is said of a member, if it is left.
-fn left_as(members: &[Member], providers: &[Label], member: &Member) -> Option<Loss>
-    ensures { result ≡ left_as members.now providers.now member.now }
+// Whether the member isn't left, though it is one of the mirror.
+fn is_no_loss(members: &[Member], providers: &[Label], member: &Member) -> bool
+    ensures { result ≡ is_no_loss members.now providers.now member.now }
 {
-    if is_named(providers, member) || is_broken(member.state) {
+    is_named(providers, member) || is_broken(member.state) || is_torn(members, member)
+}
+
+// What is said of a member, if it is whole beside a DIRTY source, or left.
+fn left_as(
+    members: &[Member],
+    providers: &[Label],
+    sources: &[Member],
+    member: &Member,
+) -> Option<Loss>
+    ensures { result ≡ left_as members.now providers.now sources.now member.now }
+{
+    let provider = member.provider;
+    if is_whole_beside(sources, member) {
+        return Some(Loss::Whole { provider });
+    }
+    if is_no_loss(members, providers, member) {
         return None;
     }
     Some(Loss::Left {
-        provider: member.provider,
+        provider,
         newer: is_newest(members, providers, member),
     })
 }
 
-// What is left of a group.
+// What is said of a group.
 fn left_in(alloc: Global, members: &[Member], providers: &[Label]) -> Result<Vec<Loss>, AllocError>
-    ensures { IfOk result (λ v. v.items ≡
-        filter_map (left_as members.now providers.now) members.now) }
+    ensures { IfOk result (λ v. v.items ≡ filter_map (left_as members.now providers.now
+        (sources_among members.now providers.now)) members.now) }
 {
+    let sources = sources_among(alloc, members, providers)?;
     members
         .iter()
-        .filter_map(|x| left_as(members, providers, x))
+        .filter_map(|x| left_as(members, providers, &sources, x))
         .collect(alloc)
 }
 
-// What is left of the first group that is adopted.
+// What is said of the first group that is adopted.
 fn left_among(
     alloc: Global,
     groups: &[Group],
@@ -108,7 +111,7 @@ fn left_among(
     Ok(Vec::new(alloc))
 }
 
-/// What an `adopt` would leave. `Device` if a last sector can't be read, or `Memory`.
+/// What an `adopt` would take away. `Device` if a last sector can't be read, or `Memory`.
 pub(crate) fn losses_of_adopt<H: Shelf>(
     alloc: Global,
     shelf: &mut H,

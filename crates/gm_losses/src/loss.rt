@@ -27,7 +27,14 @@ pub enum Loss {
     Intact {
         provider: Label,
     },
-    /// Of an `adopt`: this is another image of the mirror, which isn't named, and isn't BROKEN.
+    /// Of an `adopt`: the data would be taken from an image that says DIRTY, and this one of the
+    /// mirror, with the same genid, says none of DIRTY, SYNCHRONIZING and INACTIVE. It may be named
+    /// too.
+    Whole {
+        provider: Label,
+    },
+    /// Of an `adopt`: this is another image of the mirror, which isn't named, isn't BROKEN, and
+    /// isn't told as `Whole`. One that says DIRTY isn't told if one with its genid is whole.
     Left {
         provider: Label,
         /// Whether its genid is greater than that of each named image, or as great with a greater

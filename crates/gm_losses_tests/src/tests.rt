@@ -97,13 +97,14 @@ fn add(
     shelf.add(provider, sectors).expect(rt, "no memory");
 }
 
-// Metadata of gm1 with this did and syncid.
-fn said(rt: &impl Abort, did: u32, syncid: u32) -> [u8; 512] {
+// Metadata of a mirror with this did and syncid.
+fn said(rt: &impl Abort, name: &str, did: u32, syncid: u32, dirty: bool) -> [u8; 512] {
     let mut said = metadata(
-        &mirror(rt, "gm1", 5),
+        &mirror(rt, name, 5),
         &component(rt, "x.img", did, Disk::InSync),
     );
     said.syncid = syncid;
+    said.dflags.dirty = dirty;
     encode(&said)
 }
 
@@ -116,12 +117,25 @@ fn registered(rt: &impl Abort) -> [u8; 512] {
 }
 
 // a.img as it is registered; d.img and e.img of gm1, with e.img newer; i.img, which is blank; j.img
-// with data in sector 128; and k.img, a database with data in its last sector.
+// with data in sector 128; k.img, a database with data in its last sector; and m.img and n.img of
+// gm2, with m.img newer and DIRTY.
 fn images(rt: &(impl Abort + AllocGlobal)) -> MemShelf {
     let mut shelf = MemShelf::new(rt.alloc());
     add(rt, &mut shelf, "a.img", 4, &[(3, registered(rt))]);
-    add(rt, &mut shelf, "d.img", 4, &[(3, said(rt, 1, 3))]);
-    add(rt, &mut shelf, "e.img", 4, &[(3, said(rt, 2, 4))]);
+    add(
+        rt,
+        &mut shelf,
+        "d.img",
+        4,
+        &[(3, said(rt, "gm1", 1, 3, false))],
+    );
+    add(
+        rt,
+        &mut shelf,
+        "e.img",
+        4,
+        &[(3, said(rt, "gm1", 2, 4, false))],
+    );
     add(rt, &mut shelf, "i.img", 4, &[]);
     add(rt, &mut shelf, "j.img", 130, &[(128, one_byte())]);
     add(
@@ -130,6 +144,20 @@ fn images(rt: &(impl Abort + AllocGlobal)) -> MemShelf {
         "k.img",
         4,
         &[(0, database()), (3, one_byte())],
+    );
+    add(
+        rt,
+        &mut shelf,
+        "m.img",
+        4,
+        &[(3, said(rt, "gm2", 1, 4, true))],
+    );
+    add(
+        rt,
+        &mut shelf,
+        "n.img",
+        4,
+        &[(3, said(rt, "gm2", 2, 3, false))],
     );
     shelf
 }
@@ -226,9 +254,9 @@ fn tells(
 // the first data; of a lost image its last one, and of an adoption that of each image.
 #[test]
 fn each_loss_is_told_unless_a_read_fails(rt: HostRuntime) {
-    let [a, b, e, j, k] = ["a.img", "b.img", "e.img", "j.img", "k.img"].map(|name| label(
-        &rt, name,
-    ));
+    let [a, b, e, j, k, n] = ["a.img", "b.img", "e.img", "j.img", "k.img", "n.img"].map(
+        |name| label(&rt, name),
+    );
     let name = label(&rt, "gm0");
     let both = [
         Loss::Database { provider: k },
@@ -262,7 +290,10 @@ fn each_loss_is_told_unless_a_read_fails(rt: HostRuntime) {
         provider: e,
         newer: true,
     };
-    tells(&rt, &adopted(&rt, "gm1", "d.img"), 6, [0, 0], &[left]);
+    tells(&rt, &adopted(&rt, "gm1", "d.img"), 8, [0, 0], &[left]);
+    let whole = Loss::Whole { provider: n };
+    tells(&rt, &adopted(&rt, "gm2", "m.img"), 8, [0, 0], &[whole]);
+    tells(&rt, &adopted(&rt, "gm2", "n.img"), 8, [0, 0], &[]);
     let deactivate = Command::Deactivate { name, provider: a };
     let copy = Loss::OnlyCopy { provider: b };
     tells(&rt, &deactivate, 0, [0, 0], &[copy]);

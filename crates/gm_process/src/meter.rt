@@ -1,6 +1,7 @@
 //! How far a long work is, told on the complaints.
 
 use crate::amount::{Amount, Portion, SECTOR};
+use crate::legible::Legible;
 use crate::terminal_width::terminal_columns;
 use gm_apply::Watch;
 use gm_metadata::Label;
@@ -38,7 +39,7 @@ struct UnderWay {
 pub struct Meter<'a, E> {
     rt: &'a HostRuntime,
     /// What it is told on, which also takes lines of whoever has the meter.
-    pub complaints: &'a mut E,
+    pub complaints: &'a mut Legible<E>,
     style: Style,
     columns: usize,
     under_way: Option<UnderWay>,
@@ -78,7 +79,7 @@ fn are_over(milliseconds: u64, now: Instant, since: Option<Instant>) -> bool {
 
 impl<'a, E: Write> Meter<'a, E> {
     /// Of nothing yet.
-    pub fn new(rt: &'a HostRuntime, complaints: &'a mut E, style: Style) -> Meter<'a, E> {
+    pub fn new(rt: &'a HostRuntime, complaints: &'a mut Legible<E>, style: Style) -> Meter<'a, E> {
         Meter {
             rt,
             complaints,
@@ -162,7 +163,8 @@ impl<'a, E: Write> Meter<'a, E> {
             return;
         };
         // It is cleared first: a terminal that clears after a full line would take its end away.
-        let _ = write!(self.complaints, "\r\x1b[K{line}");
+        let _ = self.complaints.clear_line();
+        let _ = write!(self.complaints, "{line}");
         let _ = self.complaints.flush();
         self.shown = Some(now);
     }
@@ -217,7 +219,7 @@ impl<'a, E: Write> Meter<'a, E> {
     /// Takes a bar away. What is told after that shows it again.
     pub fn end(&mut self) {
         if self.style == Style::Bar && self.shown.is_some() {
-            let _ = self.complaints.write_all(b"\r\x1b[K");
+            let _ = self.complaints.clear_line();
             let _ = self.complaints.flush();
             self.shown = None;
         }

@@ -3,6 +3,7 @@
 ghost use Rattle.std.specs.Prelude.{◌≡◌};
 
 use crate::folder_cause::folder_trouble;
+use crate::legible::Legible;
 use crate::meter::Style;
 use crate::trouble::Trouble;
 use gm_shelf::ImageFailure;
@@ -71,6 +72,6 @@ impl Explaining {
 pub struct Streams<'a, I, O, E> {
     pub input: &'a mut I,
     pub output: &'a mut O,
-    pub complaints: &'a mut E,
+    pub complaints: &'a mut Legible<E>,
     pub explaining: Explaining,
 }

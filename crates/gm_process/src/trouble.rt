@@ -10,6 +10,19 @@ pub struct Trouble {
     path: String,
 }
 
+// Writes a path in one line.
+fn write_path<E: Write>(complaints: &mut E, path: &str) -> io::Result<()> {
+    let mut parted = false;
+    for piece in path.split('\n') {
+        if parted {
+            complaints.write_all(b"?")?;
+        }
+        complaints.write_all(piece.as_bytes())?;
+        parted = true;
+    }
+    Ok(())
+}
+
 impl Trouble {
     /// Of a sentence with PATH in the place of this one.
     pub fn new(sentence: &'static str, path: String) -> Trouble {
@@ -19,7 +32,11 @@ impl Trouble {
     /// Writes the sentence, without a line feed.
     pub fn write<E: Write>(&self, complaints: &mut E) -> io::Result<()> {
         match self.sentence.split_once("PATH") {
-            Some((before, after)) => write!(complaints, "{before}{}{after}", self.path.as_str()),
+            Some((before, after)) => {
+                complaints.write_all(before.as_bytes())?;
+                write_path(complaints, self.path.as_str())?;
+                complaints.write_all(after.as_bytes())
+            }
             None => write!(complaints, "{}", self.sentence),
         }
     }

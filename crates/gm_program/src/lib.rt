@@ -15,5 +15,5 @@ mod place;
 mod recover;
 
 pub use gm_faults::Fault;
-pub use gm_process::{Explaining, Status, Streams};
+pub use gm_process::{Explaining, Legible, Status, Streams};
 pub use over_streams::program;

@@ -1,14 +1,23 @@
 -- The text of what was passed over in a folder.
-use Rattle.std.specs.Prelude.{ℕ, List, [], ◌∷◌, ◌++◌, codes, flat_map, map}
+use Rattle.std.specs.Prelude.{ℕ, ◌-◌, Bool, ◌||◌, nat_le, nat_lt, List, [], ◌∷◌, ◌++◌, codes, count_by, flat_map, replicate}
 use Rattle.std.specs.String.{string_bytes}
 use Rattle.gm_shelf.specs.declared.passed_over.PassedOver.{PassedOver}
-use Rattle.gm_shelf.specs.Entries.{no_image_text, visible}
-use Rattle.gm_words.specs.Lines.{left_in_15, line}
+use Rattle.gm_shelf.specs.Entries.{no_image_text}
+use Rattle.gm_process.specs.Legible.{legible_name}
+use Rattle.gm_words.specs.Lines.{line}
 
--- an entry: its name as it is shown, and why it isn't an image
+-- a character of UTF-8 begins with this byte
+abbrev pub begins_character : ℕ → Bool
+begins_character byte = nat_lt byte 128 || nat_le 192 byte
+
+-- a name as it is shown, in 15 places if it has no more characters
+abbrev pub in_15 : List ℕ → List ℕ
+in_15 shown = shown ++ replicate (15 - count_by begins_character shown) 32
+
+-- an entry: its name, and why it isn't an image
 abbrev pub passed_line : PassedOver → List ℕ
 passed_line x =
-    line (codes "  " ++ left_in_15 (map visible (string_bytes x.name)) ++ codes " "
+    line (codes "  " ++ in_15 (legible_name (string_bytes x.name)) ++ codes " "
     ++ no_image_text x.reason)
 
 -- those that were passed over, if some were

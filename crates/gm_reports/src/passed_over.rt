@@ -1,11 +1,29 @@
 //! The text of what was passed over in a folder, since it is no image.
 
-ghost use Rattle.std.specs.Prelude.{◌≡◌, ◌++◌, ◌-◌, OnOk, replicate};
+ghost use Rattle.std.specs.Prelude.{◌≡◌, ◌++◌, ◌-◌, OnOk, count_by, replicate};
 ghost use Rattle.std.specs.String.{string_bytes};
-ghost use Rattle.gm_reports.specs.PassedOver.{passed_line, passed_text};
+ghost use Rattle.gm_reports.specs.PassedOver.{begins_character, passed_line, passed_text};
 
-use gm_shelf::{PassedOver, push_shown};
-use std::alloc::AllocError;
+use gm_process::legible_name;
+use gm_shelf::PassedOver;
+use std::alloc::{AllocError, Global};
+
+// Whether a character begins with this byte.
+fn begins_character(byte: u8) -> bool
+    ensures { result ≡ begins_character byte }
+{
+    byte < 128 || byte >= 192
+}
+
+// How many characters a text has.
+fn characters_of(text: &str) -> usize
+    ensures { result ≡ count_by begins_character text.now }
+{
+    text.as_bytes()
+        .iter()
+        .filter(|byte| begins_character(**byte))
+        .count()
+}
 
 // Appends what something of so many places lacks to 15.
 fn push_rest_of_15(text: &mut String, taken: usize) -> Result<(), AllocError>
@@ -19,19 +37,24 @@ fn push_rest_of_15(text: &mut String, taken: usize) -> Result<(), AllocError>
 }
 
 // Appends the line of an entry.
-fn push_line(text: &mut String, passed: &PassedOver) -> Result<(), AllocError>
+fn push_line(alloc: Global, text: &mut String, passed: &PassedOver) -> Result<(), AllocError>
     ensures { OnOk result
         (string_bytes text.new ≡ string_bytes text.old ++ passed_line passed.now) }
 {
     let reason = passed.reason;
+    let name = legible_name(alloc, &passed.name)?;
     text.push_str("  ")?;
-    push_shown(text, passed.name.as_bytes())?;
-    push_rest_of_15(text, passed.name.len())?;
+    text.push_str(&name)?;
+    push_rest_of_15(text, characters_of(&name))?;
     writeln!(text, " {reason}")
 }
 
 /// Appends what was passed over, if something was: a name a line, and why.
-pub(crate) fn push_passed(text: &mut String, passed: &[PassedOver]) -> Result<(), AllocError>
+pub(crate) fn push_passed(
+    alloc: Global,
+    text: &mut String,
+    passed: &[PassedOver],
+) -> Result<(), AllocError>
     ensures { OnOk result
         (string_bytes text.new ≡ string_bytes text.old ++ passed_text passed.now) }
 {
@@ -40,7 +63,7 @@ pub(crate) fn push_passed(text: &mut String, passed: &[PassedOver]) -> Result<()
     }
     text.push_str("passed over:\n")?;
     for x in passed {
-        push_line(text, x)?;
+        push_line(alloc, text, x)?;
     }
     Ok(())
 }

@@ -33,7 +33,7 @@ fn text_with(alloc: Global, tasted: &Tasted, passed: &[PassedOver]) -> Result<St
         (λ text. string_bytes text ≡ tasting_text tasted.now ++ passed_text passed.now) }
 {
     let mut text = tasting_text(alloc, tasted)?;
-    push_passed(&mut text, passed)?;
+    push_passed(alloc, &mut text, passed)?;
     Ok(text)
 }
 

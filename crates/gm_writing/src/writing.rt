@@ -9,6 +9,7 @@ use crate::obstacle::{Obstacle, say_kept};
 use crate::patches::Patches;
 use crate::source::{named, read_source};
 use crate::standing::standing_of;
+use gm_answers::say_done;
 use gm_bench::Bench;
 use gm_by_itself::first_key;
 use gm_command_line::{Checks, Form, Writing};
@@ -17,7 +18,7 @@ use gm_faults::Fault;
 use gm_handing_in::{One, hand_in_one, hand_in_text};
 use gm_lines::{pieces, shown};
 use gm_metadata::Label;
-use gm_process::{Meter, Status, Streams, Style};
+use gm_process::{Explaining, Meter, Status, Streams, Style};
 use gm_reports::{Report, no_mirror, refused};
 use gm_shelf::Shelf;
 use gm_state::State;
@@ -136,6 +137,53 @@ struct Part {
     style: Style,
 }
 
+// Says which of these commands was done last, and as which number, if one was.
+fn say_last_done<S: Alter, H: Shelf, E: Write>(
+    alloc: Global,
+    patches: &Patches<'_>,
+    part: Part,
+    bench: &mut Bench<S, H>,
+    complaints: &mut E,
+) -> Result<(), Fault> {
+    let mut last = None;
+    for index in part.begin..part.end {
+        let key = patches.key(alloc, index)?;
+        if let Some(kept) = bench.kept(key.as_str())? {
+            last = Some((key, kept.number));
+        }
+    }
+    if let Some((key, number)) = last {
+        say_done(complaints, key.as_str(), number);
+    }
+    Ok(())
+}
+
+// Hands in some commands at once. If standard output can't take their answers, it says which was
+// done last.
+fn hand_in_at_once<S: Alter, H: Shelf, O: Write, E: Write>(
+    rt: &HostRuntime,
+    patches: &Patches<'_>,
+    part: Part,
+    bench: &mut Bench<S, H>,
+    output: &mut O,
+    complaints: &mut E,
+    explaining: &Explaining,
+) -> Result<Status, Fault>
+    requires { TakesCommands (progress_of bench.old) }
+    ensures ends { IfOk result MayRefuse }
+    ensures phase { OnOk result (TakesCommands (progress_of bench.new)) }
+{
+    let alloc = rt.alloc();
+    let text = patches.lines(alloc, part.begin, part.end)?;
+    match hand_in_text(rt, text.as_str(), bench, output, complaints, explaining) {
+        Err(Fault::InputOrOutput) => {
+            let _ = say_last_done(alloc, patches, part, bench, complaints);
+            Err(Fault::InputOrOutput)
+        }
+        done => done,
+    }
+}
+
 // Hands in a part of the commands, some at once, and ends if one of these is refused.
 fn hand_in_several<S: Alter, H: Shelf, I, O: Write, E: Write>(
     rt: &HostRuntime,
@@ -152,12 +200,16 @@ fn hand_in_several<S: Alter, H: Shelf, I, O: Write, E: Write>(
     for turn in 0..part.end.saturating_sub(part.begin).div_ceil(AT_ONCE) {
         let from = part.begin.saturating_add(turn.saturating_mul(AT_ONCE));
         let to = from.saturating_add(AT_ONCE).min(part.end);
-        let text = patches.lines(rt.alloc(), from, to)?;
+        let now = Part {
+            begin: from,
+            end: to,
+            style: part.style,
+        };
         // Each answer is a line of its own, so a bar is taken away before them.
         meter.end();
         let (output, complaints) = (&mut *streams.output, &mut *meter.complaints);
         let explaining = &streams.explaining;
-        let status = hand_in_text(rt, text.as_str(), bench, output, complaints, explaining)?;
+        let status = hand_in_at_once(rt, patches, now, bench, output, complaints, explaining)?;
         if status != Status::Done {
             return Ok(Status::Refused);
         }

@@ -6,7 +6,7 @@
 mod stack;
 mod streams;
 
-use gm_program::{Explaining, Fault, Status, Streams, program};
+use gm_program::{Explaining, Fault, Legible, Status, Streams, program};
 use stack::take_stack;
 use std::env;
 use std::io::{BufReader, BufWriter, ErrorKind, IsTerminal, Write};
@@ -22,7 +22,8 @@ fn run(rt: &HostRuntime) -> Result<Status, Fault> {
     take_stack(rt)?;
     let alloc = rt.alloc();
     let _streams = StandardStreams::take(rt)?;
-    let mut complaints = rt.stderr();
+    let at_terminal = rt.stderr().is_terminal();
+    let mut complaints = Legible::new(rt.stderr());
     let given: Vec<String> = match env::args(rt) {
         Ok(given) => given.skip(1).collect(alloc)?,
         Err(e) if e.kind() == ErrorKind::OutOfMemory => return Err(Fault::MEMORY),
@@ -32,7 +33,7 @@ fn run(rt: &HostRuntime) -> Result<Status, Fault> {
         }
     };
     let words: Vec<&str> = given.iter().map(|word| word.as_str()).collect(alloc)?;
-    let mut explaining = Explaining::new(alloc, complaints.is_terminal());
+    let mut explaining = Explaining::new(alloc, at_terminal);
     explaining.asks = explaining.at_terminal && rt.stdin().is_terminal();
     let mut input = BufReader::with_capacity(alloc, INPUT_BYTES, rt.stdin())?;
     let mut output = BufWriter::new(alloc, rt.stdout())?;

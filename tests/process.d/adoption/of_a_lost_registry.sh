@@ -84,6 +84,39 @@ expect 'one that was lost is left out' 1 "$(lines 'k1 refused 26\nk1 ok 1\nk2 ok
 at_bench status
 expect 'a status of the one' 0 "$(lines 'gm0             COMPLETE 1/1\n  a.img           ACTIVE')" ''
 
+# ---- one whose source a patch was stopped in
+
+# a.img says DIRTY, and its sectors are old or new; b.img is whole, one syncid behind.
+fresh_bench torn
+put_edited "$bench/images/a.img" x 44 '\002' 49 '\002' 87 '\001'
+put_edited "$bench/images/b.img" y 40 '\002' 44 '\002'
+cp "$bench/images/a.img" "$work/torn-a"
+cp "$bench/images/b.img" "$work/torn-b"
+why="the source is DIRTY, these aren't: adopt gm0 b.img"
+at_bench adopt gm0 a.img b.img
+expect 'an adoption from a torn image is not done' 1 'g000001 not done' "$(lines "g000001: $why
+g000001: --force carries it out all the same")"
+at_bench adopt --all
+expect 'nor one of all' 1 "gm0 left: $why" ''
+at_bench status
+expect 'it is not registered' 0 'no mirrors' ''
+expect_same 'the torn one is as it was' "$bench/images/a.img" "$work/torn-a"
+expect_same 'and so is the whole one' "$bench/images/b.img" "$work/torn-b"
+at_bench adopt gm0 b.img
+expect 'the line that was given adopts the whole one' 0 'g000001 ok 1' ''
+at_bench status
+expect 'a status of the whole one' 0 "$(lines 'gm0             DEGRADED 1/2\n  b.img           ACTIVE')" ''
+for words in 'adopt --force gm0 a.img b.img' 'adopt --force --all' 'batch'; do
+    forget_registry
+    cp "$work/torn-a" "$bench/images/a.img"
+    cp "$work/torn-b" "$bench/images/b.img"
+    echo 'g000001 adopt gm0 a.img b.img' >"$work/lines"
+    at_bench $words <"$work/lines"
+    expect "from the torn one: $words" 0 'g000001 ok 1' ''
+    at_bench status
+    expect "the other is to be filled: $words" 0 "$of_two" ''
+done
+
 # ---- as many as there may be
 
 fresh_bench sixteen

@@ -53,4 +53,47 @@ expect 'a recovery without any stream' 3 '' ''
 unchanged 'no stream became an image'
 run recover --registry "$work/made" --shelf "$shelf"
 expect 'what was made meanwhile is a registry' 0 'recovered 0' ''
+
+# ---- a command that was done, though its answer can't be printed
+
+# Runs a command at that bench, to a full disk.
+to_full() {
+    command=$1
+    shift
+    timeout 20 "$gmbench" "$command" --registry "$registry" --shelf "$bench/images" "$@" >/dev/full 2>"$work/complaints"
+    status=$?
+}
+
+# Whether it ended by the fault, and said that this was done, or that nothing was.
+says_done() {
+    told=$(grep 'was done' "$work/complaints")
+    if [ "$status" = 3 ] && [ "$told" = "$2" ] && grep -qxF -- "$broken" "$work/complaints"; then
+        pass "$1"
+    else
+        fail "$1" "status $status, '$(cat "$work/complaints")'"
+    fi
+}
+
+if [ -e /dev/full ]; then
+    fresh_bench untold
+    head -c 512 /dev/zero >"$work/zeros"
+    to_full label gm0 a.img
+    says_done 'a command by itself was done' 'g000001 was done, as number 1'
+    to_full do --force k2 insert --did 2 gm0 b.img
+    says_done 'and one of do' 'k2 was done, as number 2'
+    to_full do --force k2 insert --did 2 gm0 b.img
+    says_done 'and one that is repeated' 'k2 was done, as number 2'
+    to_full do --json k3 advance gm0 b.img
+    says_done 'and one as JSON' 'k3 was done, as number 3'
+    to_full write --file "$work/zeros" --first 1 --key w gm0
+    says_done 'and one of write' 'w was done, as number 4'
+    to_full write --file "$work/zeros" --first 1 --key w gm0
+    says_done 'and one of write that is repeated' 'w was done, as number 4'
+    to_full destroy gm9
+    says_done 'nothing is said of one that is refused' ''
+    at_bench status
+    expect 'they were done' 0 "$of_filled" ''
+else
+    skip 'a command to a full disk' 'there is no /dev/full'
+fi
 finish

@@ -174,4 +174,45 @@ adopt gm1 d.img i.img|refused 8|
 adopt gm2 d.img|refused 26|
 adopt gm0 d.img|refused 6|
 END
+
+# ---- a patch that was stopped in the source
+
+# Images of gm2: p.img is newer than the others and says DIRTY; q.img is whole, r.img out of use, s.img BROKEN, and t.img was
+# being filled. Of gm3 v.img and w.img have one syncid, and w.img says DIRTY.
+fresh_bench stopped
+images=$bench/images
+set -- 20 gm2 36 '\011' 44 '\005' 45 '\002'
+put_edited "$images/p.img" d "$@" 49 '\004' 87 '\001'
+put_edited "$images/q.img" d "$@" 40 '\002' 49 '\003'
+put_edited "$images/r.img" d "$@" 40 '\003' 49 '\003' 87 '\010'
+put_edited "$images/s.img" d "$@" 40 '\004' 45 '\001' 49 '\011'
+put_edited "$images/t.img" d "$@" 40 '\005' 49 '\003' 87 '\002'
+set -- 20 gm3 36 '\010' 44 '\002'
+put_edited "$images/v.img" d "$@" 53 '\011'
+put_edited "$images/w.img" d "$@" 40 '\002' 87 '\001'
+set --
+batch "$label"
+keep_bench
+whole="the source is DIRTY, these aren't: adopt"
+title='an adoption takes no DIRTY source while another image is whole'
+expect_over_bench <<END
+adopt gm2 p.img q.img r.img t.img|lost|$whole gm2 q.img
+adopt gm2 p.img r.img t.img|lost|$whole gm2 q.img
+adopt gm2 p.img t.img|lost|r.img is of the same mirror: adopt it too;$whole gm2 q.img
+adopt gm3 w.img|lost|$whole gm3 v.img
+END
+title='without it nothing is lost, and beside a source that is whole neither'
+expect_over_bench <<'END'
+adopt gm2 q.img r.img t.img|ok|
+adopt gm2 q.img|lost|r.img is of the same mirror: adopt it too;t.img is of the same mirror: adopt it too
+adopt gm3 v.img|ok|
+adopt gm3 v.img w.img|ok|
+END
+edit_sector "$work/kept-images/q.img" 87 '\001'
+rehash "$work/kept-images/q.img"
+title='if each is DIRTY, they are adopted'
+expect_over_bench <<'END'
+adopt gm2 p.img q.img r.img t.img|ok|
+adopt gm2 p.img r.img t.img|lost|q.img is of the same mirror: adopt it too
+END
 finish

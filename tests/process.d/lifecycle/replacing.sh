@@ -72,6 +72,8 @@ expect 'with the key it goes on' 0 "$(lines 'r1 repeated 4\nr1.2 ok 5\nr1.3 ok 6
 filled_bench full-output
 timeout 20 "$gmbench" replace --quiet --registry "$registry" --shelf "$bench/images" gm0 b.img c.img >/dev/full \
     2>"$work/complaints"
+grep -qxF 'g000005 was done, as number 5' "$work/complaints" && pass 'a command whose answer is lost was done' ||
+    fail 'a command whose answer is lost was done' "$(cat "$work/complaints")"
 at_bench replace --quiet gm0 b.img c.img
 expect 'after a lost answer the same words go on' 0 "$(lines 'gm0 c.img ACTIVE\ng000005.2 ok 6')" ''
 

@@ -38,11 +38,12 @@ passed over:$device
   of-511          length no multiple of 512
   of-513          length no multiple of 512
   sixteen-letters0 name too long$socket
-  two?words       name with other characters
-  ??.img          name with other characters
+  two words       name with other characters
+  ä.img           name with other characters
   ?               name with other characters" ''
 
-# A name is told before what has it, and its length before its characters. No byte of it reaches a terminal that acts upon it.
+# A name is told before what has it, and its length before its characters. No character of it reaches a terminal that acts
+# upon it, or that turns the direction of others.
 images=$work/of-names
 mkdir "$images" "$images/a folder" "$images/folder-with-a-long-name"
 put_image "$images/a.img" a pending-a
@@ -50,17 +51,23 @@ put_image "$images/$(printf 'bell\007')" a pending-a
 put_image "$images/$(printf '\033[31mred')" a pending-a
 put_image "$images/$(printf 'two\nlines')" a pending-a
 put_image "$images/$(printf 'delete\177')" a pending-a
+put_image "$images/$(printf 'c1\302\233x')" a pending-a
+put_image "$images/$(printf 'right\342\200\256left')" a pending-a
+put_image "$images/日本" a pending-a
 put_image "$images/sixteen letters0" a pending-a
 ln -s a.img "$images/a link"
 passed_over_is 'names of other characters' "$images" 'passed over:
   ?[31mred        name with other characters
-  a?folder        name with other characters
-  a?link          name with other characters
+  a folder        name with other characters
+  a link          name with other characters
   bell?           name with other characters
+  c1?x            name with other characters
   delete?         name with other characters
   folder-with-a-long-name name too long
-  sixteen?letters0 name too long
-  two?lines       name with other characters'
+  right?left      name with other characters
+  sixteen letters0 name too long
+  two?lines       name with other characters
+  日本              name with other characters'
 rm -r "$images"/*[!g]
 passed_over_is 'nothing is told where each file is an image' "$images" ''
 
@@ -103,7 +110,7 @@ passed over:
   -wal            length no multiple of 512
   alone-wal       length no multiple of 512
   folder          not a regular file
-  my?registry     name with other characters
+  my registry     name with other characters
   registry-       length no multiple of 512
   registry-walk   length no multiple of 512' ''
 

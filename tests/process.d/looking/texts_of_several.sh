@@ -161,6 +161,6 @@ left out:
   h.img           names another image
   i.img           tells another size
 passed over:
-  two?words       name with other characters' ''
+  two words       name with other characters' ''
 set --
 finish

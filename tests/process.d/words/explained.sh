@@ -39,6 +39,34 @@ printf 'k2 destroy gm9\n' >"$work/lines"
 at_bench batch <"$work/lines"
 expect 'without the option nothing is said' 1 'k2 refused 5' ''
 
+# ---- what a terminal would act upon
+
+# Whether the complaints have these words, and beside line feeds no control character.
+expect_legible() {
+    if LC_ALL=C tr -d '\n' <"$work/complaints" | LC_ALL=C grep -q '[[:cntrl:]]'; then
+        fail "$1" "$(od -c "$work/complaints" | head -n 20)"
+    elif grep -qF -- "$2" "$work/complaints"; then
+        pass "$1"
+    else
+        fail "$1" "it complained '$(cat "$work/complaints")'"
+    fi
+}
+
+fresh_bench legible
+run "$(printf 'paint\033[2J')"
+expect_legible 'a word that clap does not take' 'paint?[2J'
+run status --explain --registry "$registry" --shelf "$(printf "$work/no\033\nfolder")"
+expect_legible 'a path' "$work/no??folder"
+at_bench do k1 destroy "$(printf 'gm\302\2330')"
+expect_legible 'a control character of two bytes' "'gm?0'"
+at_bench do k1 destroy "$(printf 'gm\nF3 disk')"
+expect_legible 'a word with a line feed' "'gm?F3 disk'"
+at_bench do k1 destroy "$(printf 'gm\303\251 \342\200\256x\342\201\251')"
+expect_legible 'characters that turn the direction, and others' "'gmé ?x?'"
+printf 'k1 destroy gm\0000\n' >"$work/lines"
+at_bench batch --explain <"$work/lines"
+expect_legible 'a NUL in a line' "'gm?0'"
+
 # ---- a refusal names the image, and what comes next
 
 fresh_bench next

@@ -1,4 +1,4 @@
-use Rattle.gm_losses.proofs.Common.{inl, inr, sym, subst, AreLosses}
+use Rattle.gm_losses.proofs.Common.{IfOk, inl, inr, sym, subst, AreLosses}
 use Rattle.gm_commands.specs.declared.command.Command.{Command}
 use Rattle.gm_losses.proofs.by_command.losses.Goals as goal
 
@@ -23,3 +23,11 @@ returns-in_ok-losses_of_leaving-in-Remove-clause-losses g c h =
       | inr e ↦ subst (λ (k : Command). AreLosses c.args.state.now size seen k list.field-0.items)
           (sym e) (list.ensures.deactivate size seen)
     ]
+
+pub returns-in-Adopt-clause-losses : goal.returns-in-Adopt-clause-losses
+returns-in-Adopt-clause-losses g c h =
+    let size = g.H.Shelf.size c.args.shelf.now in
+    let seen = (g.H.Shelf.view c.args.shelf.now).seen in
+    subst (λ (k : Command). IfOk c.losses_of_adopt.result
+    (λ list. AreLosses c.args.state.now size seen k list.items)) (sym c.in-Adopt.is)
+    (c.losses_of_adopt.ensures.losses h)
