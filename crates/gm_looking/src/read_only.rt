@@ -13,7 +13,9 @@ use gm_faults::Fault;
 use gm_looks::{audit_shelf, pending_text, pending_text_on};
 use gm_process::{HeldFolder, Patience, Place, Status, Streams};
 use gm_registry::{Loaded, StoreFault};
-use gm_registry_files::{StoreCause, Whole, leave_out_registry, records_of, store_cause};
+use gm_registry_files::{
+    Obstacle, Whole, leave_out_registry, obstacle_to_reading, records_of, store_cause,
+};
 use gm_reports::{Report, audit_report, list_report, status_report};
 use gm_shelf::{FileShelf, Shelf};
 use gm_state::Intent;
@@ -72,6 +74,20 @@ pub(crate) fn hold<I, O, E>(
     Ok(streams.explaining.heed(rt, folder, held)?)
 }
 
+// What a registry holds as it stands, or what is in the way.
+fn records_now(rt: &HostRuntime, registry: &str) -> Result<Whole, Obstacle> {
+    if let Some(found) = obstacle_to_reading(rt, registry) {
+        return Err(found);
+    }
+    match records_of(rt, registry) {
+        Ok(whole) => Ok(whole),
+        Err(fault) => Err(Obstacle {
+            fault,
+            cause: store_cause(rt, registry),
+        }),
+    }
+}
+
 /// What a registry holds as it stands; one in use is tried again. Tells why it can't be read.
 pub(crate) fn records_at<I, O, E>(
     rt: &HostRuntime,
@@ -81,16 +97,14 @@ pub(crate) fn records_at<I, O, E>(
 ) -> Result<Whole, Fault> {
     let alloc = rt.alloc();
     for _ in 0..u64::MAX {
-        match records_of(rt, registry) {
-            Err(StoreFault::Store) => {
-                let cause = store_cause(rt, registry);
-                if matches!(cause, Some(StoreCause::InUse)) && patience.pauses(rt) {
-                    continue;
-                }
-                streams.explaining.trouble = cause.and_then(|cause| cause.trouble(alloc, registry));
-                return Err(Fault::from(StoreFault::Store));
+        match records_now(rt, registry) {
+            Err(found) if found.is_in_use() && patience.pauses(rt) => {}
+            Err(found) => {
+                let trouble = found.cause.and_then(|cause| cause.trouble(alloc, registry));
+                streams.explaining.trouble = trouble;
+                return Err(Fault::from(found.fault));
             }
-            records => return Ok(records?),
+            Ok(whole) => return Ok(whole),
         }
     }
     Err(Fault::from(StoreFault::Store))

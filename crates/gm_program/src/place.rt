@@ -15,7 +15,7 @@ use gm_metadata::Label;
 use gm_process::{HeldFolder, Patience, Place, Status, Streams};
 use gm_registry::{StoreFault, named_images};
 use gm_registry_files::{
-    StoreCause, foreign_fault, is_no_database, is_there, leave_out_registry, open_store,
+    Obstacle, StoreCause, is_there, leave_out_registry, obstacle_to_opening, open_store,
     store_cause,
 };
 use gm_reports::Report;
@@ -272,16 +272,15 @@ fn open_patiently(
     Err(busy)
 }
 
-// Why a registry isn't opened at all: none is made if none is to be, and nothing of a file that
-// is no registry is touched.
-fn obstacle(rt: &HostRuntime, registry: &str, was_there: bool, makes: bool) -> Option<StoreCause> {
-    if !was_there && !makes {
-        return Some(StoreCause::Missing);
+// What is in the way of a registry. One in use is looked at again.
+fn obstacle_on(rt: &HostRuntime, registry: &str, terms: Terms) -> Option<Obstacle> {
+    for _ in 0..u64::MAX {
+        match obstacle_to_opening(rt, registry, terms.makes) {
+            Some(found) if found.is_in_use() && terms.patience.pauses(rt) => {}
+            found => return found,
+        }
     }
-    if is_no_database(rt, registry) {
-        return Some(StoreCause::NoDatabase);
-    }
-    None
+    obstacle_to_opening(rt, registry, terms.makes)
 }
 
 // Why a registry couldn't be opened, by SQLite's answer and a look at its files.
@@ -305,13 +304,9 @@ fn open_registry<I, O, E: Write>(
 ) -> Result<Connection<FileStore<File>>, StoreFault> {
     let alloc = rt.alloc();
     let was_there = is_there(rt, registry);
-    if let Some(cause) = obstacle(rt, registry, was_there, terms.makes) {
-        streams.explaining.trouble = cause.trouble(alloc, registry);
-        return Err(StoreFault::Store);
-    }
-    if let Some(fault) = foreign_fault(rt, registry) {
-        streams.explaining.trouble = StoreCause::Foreign.trouble(alloc, registry);
-        return Err(fault);
+    if let Some(found) = obstacle_on(rt, registry, terms) {
+        streams.explaining.trouble = found.cause.and_then(|cause| cause.trouble(alloc, registry));
+        return Err(found.fault);
     }
     match open_patiently(rt, registry, terms.patience) {
         Ok(store) => {

@@ -36,7 +36,7 @@ fn lists_others(head: &[u8]) -> bool {
 /// Why an opening of a registry would be refused that seems to be another program's database:
 /// `Unreadable` or `Store`, as an opening says. `None` if it is a registry, or may become one.
 /// Nothing is written, and nothing is put beside it.
-pub fn foreign_fault(rt: &HostRuntime, registry: &str) -> Option<StoreFault> {
+pub(crate) fn foreign_fault(rt: &HostRuntime, registry: &str) -> Option<StoreFault> {
     let mut head = [0; HEAD_BYTES];
     let count = head_of(rt, registry, &mut head).ok()?;
     if !lists_others(head.get(..count)?) {

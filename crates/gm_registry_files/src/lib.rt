@@ -2,21 +2,26 @@
 //! opening.
 //!
 //! `registry_files.rt` knows which files are a registry's: its own, and those that SQLite puts
-//! beside it, which `beside.rt` names. `opened.rt` opens or makes them. `unopened.rt` reads them by
-//! an overlay, so that nothing is written, and `unusable.rt` says why a registry can't be opened.
-//! `foreign.rt` keeps a database of another program from being opened.
+//! beside it, which `beside.rt` names. `obstacle.rt` says what is in the way before any of them is
+//! opened to be written: another file with the name of the log (`log.rt`), or a database of another
+//! program (`foreign.rt`). `opened.rt` opens or makes them. `unopened.rt` reads them by an overlay,
+//! so that nothing is written, under the locks of `shared.rt`. `unusable.rt` says why a registry
+//! can't be opened.
 #![tactic(auto)]
 
 mod beside;
 mod foreign;
+mod log;
+mod obstacle;
 mod opened;
 mod registry_files;
+mod shared;
 mod unopened;
 mod unusable;
 
 pub use beside::without_beside;
-pub use foreign::foreign_fault;
+pub use obstacle::{Obstacle, obstacle_to_opening, obstacle_to_reading};
 pub use opened::open_store;
 pub use registry_files::{is_there, leave_out_registry, length_of};
 pub use unopened::{Whole, records_of};
-pub use unusable::{StoreCause, is_no_database, store_cause};
+pub use unusable::{StoreCause, store_cause};

@@ -1,11 +1,10 @@
 //! Why a registry can't be opened, by a look at its files, and what is no registry for certain.
 
+use crate::shared::{has_journal, open_shared};
 use gm_process::Trouble;
-use os::RangeLock;
 use std::alloc::Global;
 use std::fs::{self, File, Metadata, OpenOptions};
 use std::io::{self, ErrorKind, Read};
-use std::os::fd::AsRawFd;
 use std::os::unix::fs::MetadataExt;
 
 /// Why a registry can't be opened.
@@ -33,6 +32,8 @@ pub enum StoreCause {
     Journal,
     /// No database begins as it does.
     NoDatabase,
+    /// Another file has the name of its log.
+    OtherLog,
     /// It is a database with other tables.
     Foreign,
     /// It failed while it was open, and nothing more is known.
@@ -60,6 +61,7 @@ impl StoreCause {
             StoreCause::InUse => "another program has PATH open",
             StoreCause::Journal => "PATH has a rollback journal: open it with sqlite3 first",
             StoreCause::NoDatabase => "PATH isn't a registry: no database begins as it does",
+            StoreCause::OtherLog => "PATH-wal isn't a registry's log: another file has its name",
             StoreCause::Foreign => "PATH is a database of another program",
             StoreCause::Failed =>
                 "PATH can't be read or written: its medium may be full; or it is no registry",
@@ -80,7 +82,7 @@ fn is_foreign(first: &[u8]) -> bool {
 }
 
 /// Whether a file is no registry, by its first bytes. One that can't be read may be one.
-pub fn is_no_database(rt: &HostRuntime, registry: &str) -> bool {
+pub(crate) fn is_no_database(rt: &HostRuntime, registry: &str) -> bool {
     let mut first = [0; 16];
     let Ok(count) = first_bytes(rt, registry, &mut first) else {
         return false;
@@ -96,23 +98,17 @@ fn first_bytes(rt: &HostRuntime, registry: &str, out: &mut [u8; 16]) -> io::Resu
     File::open(rt, registry)?.read(out)
 }
 
-// Where SQLite's locks lie in a file, in bytes, and how many they are.
-const LOCKS: u64 = 1 << 30;
-
-const LOCK_BYTES: u64 = 512;
-
 // Whether another program holds a lock on a file that keeps a reader away.
 fn is_in_use(rt: &HostRuntime, path: &str) -> io::Result<bool> {
-    let file = File::open(rt, path)?;
-    if os::try_lock_range(file.as_raw_fd(), RangeLock::Shared, LOCKS, LOCK_BYTES) == 0 {
-        return Ok(false);
+    match open_shared(rt, path) {
+        Ok(_) => Ok(false),
+        Err(e) if e.kind() == ErrorKind::WouldBlock => Ok(true),
+        Err(e) => Err(e),
     }
-    let error = io::Error::from_raw_os_error(os::errno());
-    Ok(error.kind() == ErrorKind::WouldBlock)
 }
 
-// Why nothing is found at a path.
-fn cause_of_none(rt: &HostRuntime, registry: &str) -> StoreCause {
+/// Why nothing is found at a path.
+pub(crate) fn cause_of_none(rt: &HostRuntime, registry: &str) -> StoreCause {
     let folder = match registry.rsplit_once('/') {
         None | Some(("", _)) => return StoreCause::Missing,
         Some((folder, _)) => folder,
@@ -145,17 +141,6 @@ fn cause_of_kind(found: &Metadata) -> Option<StoreCause> {
     None
 }
 
-// Whether SQLite would have to play a journal back first.
-fn has_journal(rt: &HostRuntime, path: &str) -> bool {
-    let Ok(journal) = format!(in rt.alloc(); "{path}-journal") else {
-        return false;
-    };
-    match fs::symlink_metadata(rt, journal.as_str()) {
-        Ok(found) => !found.is_file() || found.len() > 0,
-        Err(_) => false,
-    }
-}
-
 // What there is at the path of a registry without a link.
 fn cause_at(rt: &HostRuntime, path: &str) -> io::Result<Option<StoreCause>> {
     if let Some(cause) = cause_of_kind(&fs::metadata(rt, path)?) {
@@ -164,7 +149,7 @@ fn cause_at(rt: &HostRuntime, path: &str) -> io::Result<Option<StoreCause>> {
     if is_in_use(rt, path)? {
         return Ok(Some(StoreCause::InUse));
     }
-    if has_journal(rt, path) {
+    if has_journal(rt, path)? {
         return Ok(Some(StoreCause::Journal));
     }
     if is_no_database(rt, path) {

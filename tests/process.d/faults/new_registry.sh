@@ -1,4 +1,4 @@
-# A registry that is made, and one that has other pages.
+# A registry that is made, one that has other pages, and a log that is emptied.
 . "$helpers/bench.sh"
 . "$helpers/python.sh"
 
@@ -29,5 +29,5 @@ at_bench recover
 expect 'an older registry is opened' 0 'recovered 2' ''
 expect_pages 'an older registry that was opened' 4096
 
-run_stopped_calls 'a registry whose making is stopped' faults/new_registry.py
+run_stopped_calls 'a registry whose making, or whose log, is stopped' faults/new_registry.py
 finish

@@ -238,9 +238,10 @@ for path in r link ../images/./r; do
     registry=$bench/images/r
     at_bench recover
     ln -s r "$bench/images/link"
-    for file in r-wal r-shm r-journal r-log s-wal; do
+    for file in r-shm r-journal r-log s-wal; do
         head -c 1024 /dev/zero >"$bench/images/$file"
     done
+    truncate -s 1024 "$bench/images/r-wal"
     registry=$bench/images/$path
     batch 'k1 label --mid 1 --did 1 gm1 r
 k2 label --mid 2 --did 1 gm2 r-wal
@@ -266,4 +267,101 @@ head -c $((512 - log_length % 512)) /dev/zero >>"$registry-wal"
 batch "${label}k2 label --mid 8 --did 1 gm1 r-wal\n"
 expect 'the log of a registry' 1 "$(lines 'k1 repeated 1\nk2 refused 8')" ''
 expect_images 'its batch is kept' fresh bare
+
+# ---- another file that has the name of a registry's log
+
+# What opens a registry and makes one, what only opens one, and what only reads one.
+makers='list status audit recover batch do@k9@label@--mid@8@--did@1@gm1@a.img label@gm1@a.img serve@--port@0@--count@1'
+openers='do@k9@clear@b.img clear@b.img sync scrub recover@--existing list@--existing'
+readers='check pending list@--read-only status@--read-only audit@--read-only'
+
+# Whether each of these commands says this of the registry, and leaves each byte of the folder of images as it was kept.
+expect_untouched() {
+    for words in $3; do
+        command=$(echo "$words" | tr @ ' ')
+        GMBENCH_EXPLAIN=1 at_bench $command </dev/null
+        expect "$command: $1" 3 '' "gmbench: F2 store
+F2: $2"
+        if other=$(diff -r "$bench/images" "$work/kept-folder" 2>&1); then
+            pass "$command leaves each byte: $1"
+        else
+            fail "$command leaves each byte: $1" "$other"
+        fi
+    done
+}
+keep_folder() {
+    rm -rf "$work/kept-folder"
+    cp -R "$bench/images" "$work/kept-folder"
+}
+
+# An image that a mirror has is named as the log of a registry, which isn't there yet.
+fresh_bench log-of-none
+put_image "$bench/images/x-wal" x bare
+batch 'k1 label --mid 7 --did 1 gm0 x-wal\n'
+registry=$bench/images/x
+keep_folder
+expect_untouched 'an image has the name of its log' "$registry-wal isn't a registry's log: another file has its name" "$makers"
+expect_untouched 'there is none beside an image' "there is no registry at $registry" "$openers $readers"
+
+# The registry is there.
+cp "$bench/registry" "$registry"
+keep_folder
+expect_untouched 'an image beside it' "$registry-wal isn't a registry's log: another file has its name" \
+    "$makers $openers $readers"
+
+# A log with commands in it, of which one of the first bytes is another: it isn't sure whose it is.
+fresh_bench other-heads
+registry=$bench/images/x
+kill_batch "$label"
+keep_folder
+cp -R "$work/kept-folder" "$work/logged"
+for other in '0 \001' '0 \067\000' '1 \176' '2 \007' '3 \201' '3 \204'; do
+    rm -rf "$bench/images"
+    cp -R "$work/logged" "$bench/images"
+    printf "${other#* }" | dd of="$registry-wal" bs=1 seek="${other%% *}" conv=notrunc 2>/dev/null
+    keep_folder
+    expect_untouched "a log with other bytes, $other" "$registry-wal isn't a registry's log: another file has its name" \
+        'recover pending'
+done
+rm -rf "$bench/images"
+cp -R "$work/logged" "$bench/images"
+at_bench recover
+expect 'the log as it was' 0 'recovered 1' ''
+
+# What is no longer than an empty log is none, whatever is in it.
+for length in 41 42; do
+    fresh_bench "zeros-$length"
+    registry=$bench/images/x
+    head -c $length /dev/zero >"$registry-wal"
+    keep_folder
+    if [ "$length" = 41 ]; then
+        at_bench recover
+        expect "$length bytes with the name of a log" 0 'recovered 0' "a new registry was made at $registry"
+    else
+        expect_untouched "$length bytes with the name of a log" \
+            "$registry-wal isn't a registry's log: another file has its name" recover
+    fi
+done
+
+# ---- files that are refused get no log
+
+# Zeros, and what begins as a database does and isn't one.
+fresh_bench refused
+registry=$bench/images/x
+head -c 2048 /dev/zero >"$work/zeros"
+{
+    printf 'SQLite format 3\000'
+    head -c 2032 /dev/zero
+} >"$work/header-alone"
+printf 'SQL' >"$work/three-bytes"
+for file in zeros header-alone three-bytes; do
+    cp "$work/$file" "$registry"
+    keep_folder
+    for command in recover status list batch sync check pending; do
+        at_bench $command </dev/null
+        expect "a $command over a file of $file" 3 '' 'gmbench: F2 store'
+        expect_none "a $command puts nothing beside $file" "$registry-wal"
+        expect_same "a $command leaves $file" "$registry" "$work/$file"
+    done
+done
 finish
