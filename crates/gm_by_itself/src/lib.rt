@@ -13,3 +13,4 @@ mod own_numbers;
 pub use adopting::adopt_all;
 pub use by_itself::hand_in_by_itself;
 pub use keys::{first_key, following_key};
+pub use own_numbers::{free_did, number_after};

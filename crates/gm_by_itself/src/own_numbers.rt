@@ -3,6 +3,7 @@
 ghost use Rattle.std.specs.Prelude.{◌≡◌, ◌==◌, IfOk, IfSome, OnOk, false};
 ghost use Rattle.std.specs.List.{list_any};
 ghost use Rattle.gm_bench.specs.Benches.{progress_of};
+ghost use Rattle.gm_by_itself.specs.Keys.{dids_of};
 
 use gm_bench::Bench;
 use gm_command_line::Single;
@@ -41,8 +42,8 @@ fn least_free(used: &[u32]) -> Option<u32>
     None
 }
 
-// The number after an option in the words of a command, as they are kept.
-fn number_after(words: &str, option: &str) -> Option<u32> {
+/// The number after an option in the words of a command, as they are kept.
+pub fn number_after(words: &str, option: &str) -> Option<u32> {
     let mut words = words.split(' ');
     for _ in 0..u64::MAX {
         if words.next()? == option {
@@ -59,7 +60,9 @@ fn mirror_of<'a>(words: &[&'a str]) -> Option<&'a str> {
 }
 
 // The numbers of the components that a mirror has.
-fn dids_of(alloc: Global, state: &State, name: &str) -> Result<Vec<u32>, AllocError> {
+fn dids_of(alloc: Global, state: &State, name: &str) -> Result<Vec<u32>, AllocError>
+    ensures { IfOk result (λ dids. dids.items ≡ dids_of state.now name.now) }
+{
     state
         .components()
         .iter()
@@ -101,6 +104,14 @@ fn mids_in(rt: &HostRuntime, state: &State, folder: &str) -> Result<Vec<u32>, Fa
     Ok(mids_of(rt.alloc(), state, &names, &mut shelf)?)
 }
 
+/// The number that a new component of a mirror gets: the least from 1 on that none has.
+pub fn free_did(alloc: Global, state: &State, name: &str) -> Result<Option<u32>, AllocError>
+    ensures { IfOk result (λ found. IfSome found
+        (λ did. list_any (λ n. n == did) (dids_of state.now name.now) ≡ false)) }
+{
+    Ok(least_free(&dids_of(alloc, state, name)?))
+}
+
 // The numbers that are free.
 fn free_numbers(
     rt: &HostRuntime,
@@ -114,8 +125,7 @@ fn free_numbers(
         None
     };
     let did = if single.unnumbered.component {
-        let name = mirror_of(single.words).unwrap_or("");
-        least_free(&dids_of(rt.alloc(), state, name)?)
+        free_did(rt.alloc(), state, mirror_of(single.words).unwrap_or(""))?
     } else {
         None
     };

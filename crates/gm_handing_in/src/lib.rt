@@ -17,5 +17,6 @@ mod single;
 pub use batch::{Lines, hand_in, hand_in_lines_of, hand_in_text};
 pub use insistence::is_wanted;
 pub use loss_sentences::whole_sentence;
+pub use lost_by::losses_told;
 pub use serving::serve;
 pub use single::{One, hand_in_one};

@@ -50,6 +50,18 @@ fn losses_of<I, O, E: Write>(
     }
 }
 
+/// What a command would take away for good, in sentences, by these mirrors and by the images as they
+/// are now.
+pub fn losses_told<I, O, E: Write>(
+    rt: &HostRuntime,
+    state: &State,
+    command: &Command,
+    streams: &mut Streams<'_, I, O, E>,
+) -> Result<Vec<String>, Fault> {
+    let found = losses_of(rt, state, command, streams)?;
+    Ok(sentences_of(rt.alloc(), command, &found)?)
+}
+
 /// Whether nothing is lost by a command, or whoever runs the program wants it all the same; else it
 /// prints that the command isn't done, and what would be lost. The bench is asked for the mirrors
 /// alone.
@@ -66,10 +78,9 @@ pub(crate) fn lets_go<S: Alter, H: Shelf, I: BufRead, O: Write, E: Write>(
 {
     let alloc = rt.alloc();
     let state = bench.view(alloc)?;
-    let found = losses_of(rt, &state, command, streams)?;
-    if found.is_empty() {
+    let sentences = losses_told(rt, &state, command, streams)?;
+    if sentences.is_empty() {
         return Ok(true);
     }
-    let sentences = sentences_of(alloc, command, &found)?;
     is_wanted(alloc, key, form, &sentences, streams)
 }

@@ -1,6 +1,6 @@
 //! The commands of a replacement, each under a key that follows from its first.
 
-ghost use Rattle.std.specs.Prelude.{OnOk};
+ghost use Rattle.std.specs.Prelude.{◌≡◌, OnOk};
 ghost use Rattle.gm_bench.specs.Benches.{progress_of};
 ghost use Rattle.gm_bench.specs.Phases.{TakesCommands};
 
@@ -11,56 +11,39 @@ use gm_command_line::{Form, Replacing, Single, Unnumbered};
 use gm_metadata::Label;
 use gm_process::{Status, Streams};
 use gm_shelf::Shelf;
+use gm_ways::{Act, Exchange};
 use sqlite::Alter;
 use std::alloc::{AllocError, Global};
 use std::io::{BufRead, Write};
 
-/// A command of a replacement.
-#[derive(Clone, Copy, Debug, PartialEq, Eq)]
-pub(crate) enum Step {
-    Insert,
-    Remove,
-    Lost,
-    Forget,
-}
-
-/// A command of a replacement, and the number that its key has, from 1 on.
-#[derive(Clone, Copy)]
-pub(crate) struct Numbered {
-    pub(crate) step: Step,
-    pub(crate) number: usize,
-}
-
-impl Step {
-    // The command's name.
-    fn name(self) -> &'static str {
-        match self {
-            Step::Insert => "insert",
-            Step::Remove => "remove",
-            Step::Lost => "lost",
-            Step::Forget => "forget",
-        }
-    }
-
-    // The image that it names, if it names one.
-    fn image(self, replacing: &Replacing<'_>) -> Option<Label> {
-        match self {
-            Step::Insert => Some(replacing.new),
-            Step::Remove | Step::Lost => Some(replacing.old),
-            Step::Forget => None,
-        }
+/// Which image takes which one's place.
+pub(crate) fn exchange_of(replacing: &Replacing<'_>) -> Exchange
+    ensures mirror { result.mirror ≡ replacing.now.mirror }
+    ensures old { result.old ≡ replacing.now.old }
+    ensures new { result.new ≡ replacing.now.new }
+{
+    Exchange {
+        mirror: replacing.mirror,
+        old: replacing.old,
+        new: replacing.new,
     }
 }
 
-// The words of a command about a mirror, and perhaps an image.
-fn words_of<'a>(
+/// The words of a command about a mirror, and perhaps an image, with the number of a new component
+/// if it is given.
+pub(crate) fn words_of<'a>(
     alloc: Global,
-    step: Step,
+    act: Act,
+    did: &'a Option<String>,
     mirror: &'a Label,
     image: &'a Option<Label>,
 ) -> Result<Vec<&'a str>, AllocError> {
     let mut words = Vec::new(alloc);
-    words.push(step.name())?;
+    words.push(act.name())?;
+    if let Some(did) = did {
+        words.push("--did")?;
+        words.push(did.as_str())?;
+    }
     words.push("--")?;
     words.push(mirror.as_str())?;
     if let Some(image) = image {
@@ -69,12 +52,14 @@ fn words_of<'a>(
     Ok(words)
 }
 
-/// Hands in a command under a key that follows from the first, and prints its answer.
+/// Hands in a command under the key of this number, which follows from the first, and prints its
+/// answer.
 pub(crate) fn hand_in_step<S: Alter, H: Shelf, I: BufRead, O: Write, E: Write>(
     rt: &HostRuntime,
     replacing: &Replacing<'_>,
     first: &str,
-    numbered: Numbered,
+    act: Act,
+    number: usize,
     bench: &mut Bench<S, H>,
     streams: &mut Streams<'_, I, O, E>,
 ) -> Result<(), Stopped>
@@ -82,17 +67,16 @@ pub(crate) fn hand_in_step<S: Alter, H: Shelf, I: BufRead, O: Write, E: Write>(
     ensures { OnOk result (TakesCommands (progress_of bench.new)) }
 {
     let alloc = rt.alloc();
-    let step = numbered.step;
-    let key = following_key(alloc, first, numbered.number)?;
+    let key = following_key(alloc, first, number)?;
     let mirror = replacing.mirror;
-    let image = step.image(replacing);
-    let words = words_of(alloc, step, &mirror, &image)?;
+    let image = act.image(&exchange_of(replacing));
+    let words = words_of(alloc, act, &None, &mirror, &image)?;
     let single = Single {
         key: Some(key.as_str()),
         words: &words,
         unnumbered: Unnumbered {
             mirror: false,
-            component: step == Step::Insert,
+            component: act == Act::Insert,
         },
         checks: replacing.checks,
         form: Form::Text,

@@ -36,19 +36,29 @@ pub(crate) fn is_active_in(state: &State, image: Label) -> bool
     is_active_state(component_state(state, image))
 }
 
-// The same, by the records of the registry.
-fn is_active<S: Alter, H: Shelf>(
+// The state of an image as a component, by the records of the registry.
+fn state_of<S: Alter, H: Shelf>(
     alloc: Global,
     bench: &mut Bench<S, H>,
     image: Label,
-) -> Result<bool, BenchFault>
-    ensures active { DiskKept S.Store (registry_of bench.new) → IfOk result (λ active. (t : Tables)
+) -> Result<Option<ComponentState>, BenchFault>
+    ensures state { DiskKept S.Store (registry_of bench.new) → IfOk result (λ found. (t : Tables)
         (s : Records) → HasTables S.Store (registry_of bench.old) t → AreRecordsOf t s
-        → active ≡ is_active (component_state s image)) }
+        → found ≡ component_state s image) }
     ensures progress { OnOk result (progress_of bench.new ≡ progress_of bench.old) }
 {
     let state = bench.view(alloc)?;
-    Ok(is_active_in(&state, image))
+    Ok(component_state(&state, image))
+}
+
+// Says why a sync doesn't fill an image, if that isn't said elsewhere.
+fn say_inactive<E: Write>(complaints: &mut E, state: Option<ComponentState>, image: Label) {
+    if let Some(ComponentState::Inactive) = state {
+        let _ = writeln!(
+            complaints,
+            "{image} is INACTIVE: activate lets it be filled"
+        );
+    }
 }
 
 /// Fills the new image, and prints its state. It goes on only if that is ACTIVE then.
@@ -76,9 +86,10 @@ pub(crate) fn fill_new<S: Alter, H: Shelf, I, O: Write, E: Write>(
     if report.status != Status::Done {
         return Err(Stopped::Refused);
     }
-    if is_active(rt.alloc(), bench, replacing.new)? {
-        Ok(())
-    } else {
-        Err(Stopped::Refused)
+    let state = state_of(rt.alloc(), bench, replacing.new)?;
+    if is_active_state(state) {
+        return Ok(());
     }
+    say_inactive(streams.complaints, state, replacing.new);
+    Err(Stopped::Refused)
 }

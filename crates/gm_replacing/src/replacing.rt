@@ -1,129 +1,70 @@
 //! The command `replace`.
 
-ghost use Rattle.std.specs.Prelude.{◌≡◌, IfOk, IsTrue, OnOk};
+ghost use Rattle.std.specs.Prelude.{◌≡◌, IfOk, OnOk};
 ghost use Rattle.gm_bench.specs.Benches.{progress_of};
 ghost use Rattle.gm_bench.specs.Phases.{TakesCommands};
 ghost use Rattle.gm_process.specs.Statuses.{MayRefuse};
 
-use crate::commands::{Numbered, Step, hand_in_step};
+use crate::commands::hand_in_step;
 use crate::filled::fill_new;
+use crate::keys::{KeyRefused, left_of};
+use crate::plan::{Plan, Stop, plan_of};
+use crate::questions::checks_left;
+use crate::sayings::{
+    Refused, say_no_room, say_not_done, say_refused, say_removed_first, say_unfilled,
+};
 use crate::stopped::Stopped;
-use crate::way::{Way, way_begun, way_now};
+use crate::way::{Going, way_of};
 use gm_bench::Bench;
 use gm_by_itself::{first_key, following_key};
-use gm_command_line::{Form, Replacing};
-use gm_commands::is_key;
+use gm_command_line::Replacing;
+use gm_commands::{MAX_COMMANDS, is_key};
 use gm_faults::Fault;
-use gm_handing_in::is_wanted;
-use gm_lines::shown;
 use gm_process::{Status, Streams};
-use gm_reports::{no_component, no_mirror, refused};
+use gm_refusals::CallRefusal;
 use gm_shelf::Shelf;
-use gm_state::{MAX_COMPONENTS, State};
+use gm_ways::{Act, Step, Way, gives_up_first};
 use sqlite::Alter;
 use std::alloc::{AllocError, Global};
-use std::io::{self, BufRead, Write};
+use std::io::{BufRead, Write};
 
 // The number of the last command that a replacement may take.
 const LAST: usize = 3;
 
-// A command with the number of its key.
-fn numbered(step: Step, number: usize) -> Numbered {
-    Numbered { step, number }
-}
-
-// Hands in the commands of a way, and fills the new image, in its order.
-fn go<S: Alter, H: Shelf, I: BufRead, O: Write, E: Write>(
+// Takes a step: hands in its command, or fills the new image.
+fn take<S: Alter, H: Shelf, I: BufRead, O: Write, E: Write>(
     rt: &HostRuntime,
     asked: &Replacing<'_>,
     first: &str,
-    way: Way,
+    step: Step,
     bench: &mut Bench<S, H>,
     streams: &mut Streams<'_, I, O, E>,
 ) -> Result<(), Stopped>
     requires { TakesCommands (progress_of bench.old) }
+    ensures { OnOk result (TakesCommands (progress_of bench.new)) }
 {
-    match way {
-        Way::InsertFirst => {
-            hand_in_step(rt, asked, first, numbered(Step::Insert, 1), bench, streams)?;
-            fill_new(rt, asked, bench, streams)?;
-            hand_in_step(rt, asked, first, numbered(Step::Remove, 2), bench, streams)
-        }
-        Way::LostFirst => {
-            hand_in_step(rt, asked, first, numbered(Step::Lost, 1), bench, streams)?;
-            hand_in_step(rt, asked, first, numbered(Step::Forget, 2), bench, streams)?;
-            hand_in_step(rt, asked, first, numbered(Step::Insert, 3), bench, streams)?;
-            fill_new(rt, asked, bench, streams)
-        }
-        Way::RemoveFirst => {
-            hand_in_step(rt, asked, first, numbered(Step::Remove, 1), bench, streams)?;
-            hand_in_step(rt, asked, first, numbered(Step::Insert, 2), bench, streams)?;
-            fill_new(rt, asked, bench, streams)
-        }
-        Way::Inserted | Way::Filled => {
-            fill_new(rt, asked, bench, streams)?;
-            hand_in_step(rt, asked, first, numbered(Step::Remove, 2), bench, streams)
-        }
-        Way::OnlyFill => fill_new(rt, asked, bench, streams),
+    match step {
+        Step::HandIn { act, number } => hand_in_step(rt, asked, first, act, number, bench, streams),
+        Step::Fill => fill_new(rt, asked, bench, streams),
     }
 }
 
-// Says that there is nothing to replace: no such mirror, or neither image is in it.
-fn say_nothing_there<I, O: Write, E: Write>(
-    alloc: Global,
-    replacing: &Replacing<'_>,
-    state: &State,
-    streams: &mut Streams<'_, I, O, E>,
-) -> Result<(), Stopped> {
-    let why = match no_mirror(state, replacing.mirror) {
-        Some(why) => Some(why),
-        None => no_component(state, replacing.mirror, replacing.old),
-    };
-    if let Some(why) = why {
-        let report = refused(alloc, streams, why)?;
-        streams.output.write_all(report.text.as_bytes())?;
-        streams.output.flush()?;
-    }
-    if streams.explaining.wanted {
-        let _ = writeln!(
-            streams.complaints,
-            "one that was stopped goes on with --key and its first key"
-        );
-    }
-    Ok(())
-}
-
-// The way that was begun under the first key, or else the one that is to be gone now.
-fn way_of<S: Alter, H: Shelf, I, O: Write, E: Write>(
-    alloc: Global,
-    replacing: &Replacing<'_>,
+// Takes the steps in their order, up to one that is refused.
+fn go<S: Alter, H: Shelf, I: BufRead, O: Write, E: Write>(
+    rt: &HostRuntime,
+    asked: &Replacing<'_>,
     first: &str,
+    steps: &[Step],
     bench: &mut Bench<S, H>,
     streams: &mut Streams<'_, I, O, E>,
-) -> Result<Way, Stopped>
-    ensures { OnOk result (progress_of bench.new ≡ progress_of bench.old) }
+) -> Result<(), Stopped>
+    requires { TakesCommands (progress_of bench.old) }
+    ensures { OnOk result (TakesCommands (progress_of bench.new)) }
 {
-    if let Some(kept) = bench.kept(first)? {
-        return Ok(way_begun(kept.words.as_str()));
+    for step in steps {
+        take(rt, asked, first, *step, bench, streams)?;
     }
-    let state = bench.view(alloc)?;
-    match way_now(alloc, bench, &state, replacing)? {
-        Some(way) => Ok(way),
-        None => {
-            say_nothing_there(alloc, replacing, &state, streams)?;
-            Err(Stopped::Refused)
-        }
-    }
-}
-
-// Says what is done before what replaces it is there.
-fn say_removed_first<E: Write>(complaints: &mut E, replacing: &Replacing<'_>) {
-    let mirror = replacing.mirror;
-    let old = replacing.old;
-    let _ = writeln!(
-        complaints,
-        "{mirror} has {MAX_COMPONENTS} components, the most: {old} is removed first"
-    );
+    Ok(())
 }
 
 // Whether a key is so long that none follows from it.
@@ -147,44 +88,110 @@ fn obstacle(
     Ok(None)
 }
 
-// Says that nothing is done, and why.
-fn say_not_done<I, O: Write, E: Write>(
-    first: &str,
-    why: &str,
-    streams: &mut Streams<'_, I, O, E>,
-) -> io::Result<()> {
-    let key = shown(first);
-    writeln!(streams.output, "{key} not done")?;
-    streams.output.flush()?;
-    let _ = writeln!(streams.complaints, "{key}: {why}");
-    Ok(())
-}
-
-// Whether the old image is taken out although the new one was ACTIVE before: if that is forced, or
-// if whoever runs the program wants it. A replacement that was stopped just before its last command
-// left it so.
-fn is_taken_out<I: BufRead, O: Write, E: Write>(
-    alloc: Global,
+// Tells that a command is refused. If that is the insertion with which it would begin, it is handed
+// in all the same, and answered by itself. Else nothing is handed in.
+fn refuse<S: Alter, H: Shelf, I: BufRead, O: Write, E: Write>(
+    rt: &HostRuntime,
     replacing: &Replacing<'_>,
     first: &str,
+    refused: Refused<'_>,
+    bench: &mut Bench<S, H>,
     streams: &mut Streams<'_, I, O, E>,
-) -> Result<bool, Fault>
-    // Unless it is forced, it is wanted only if there is somebody to ask.
-    ensures asked { IfOk result (λ is_taken_out. IsTrue is_taken_out
-        → IsTrue replacing.now.checks.losses → IsTrue streams.old.explaining.asks) }
+) -> Stopped
+    requires { TakesCommands (progress_of bench.old) }
 {
-    if !replacing.checks.losses {
-        return Ok(true);
+    let Refused { act, number, .. } = refused;
+    let told = if act == Act::Insert && number == 1 {
+        hand_in_step(rt, replacing, first, act, number, bench, streams)
+    } else {
+        say_refused(rt, replacing, first, refused, streams)
+    };
+    match told {
+        Ok(()) => Stopped::Refused,
+        Err(stopped) => stopped,
     }
-    let (mirror, old, new) = (replacing.mirror, replacing.old, replacing.new);
-    let sentence = format!(in alloc;
-        "{new} is ACTIVE in {mirror} already: {old} is taken out, and nothing is put in its place"
-    )?;
-    let sentences = [sentence];
-    is_wanted(alloc, shown(first), Form::Text, &sentences, streams)
 }
 
-// Does what is left of a replacement whose first command has this key.
+// Ends it at a step that would be refused. A filling that is refused takes nothing away, and ends it
+// by itself, unless the old image is given up first.
+fn refuse_at<S: Alter, H: Shelf, I: BufRead, O: Write, E: Write>(
+    rt: &HostRuntime,
+    replacing: &Replacing<'_>,
+    first: &str,
+    plan: &Plan,
+    stop: Stop<'_>,
+    bench: &mut Bench<S, H>,
+    streams: &mut Streams<'_, I, O, E>,
+) -> Result<(), Stopped>
+    requires { TakesCommands (progress_of bench.old) }
+    ensures { OnOk result (progress_of bench.new ≡ progress_of bench.old) }
+{
+    match stop.step {
+        Step::HandIn { act, number } => {
+            let refused = Refused {
+                act,
+                number,
+                did: plan.did,
+                why: CallRefusal::ByRules(stop.why),
+                state: Some(stop.state),
+            };
+            Err(refuse(rt, replacing, first, refused, bench, streams))
+        }
+        Step::Fill => {
+            if !gives_up_first(&plan.steps) {
+                return Ok(());
+            }
+            say_unfilled(rt.alloc(), replacing, first, streams)?;
+            Err(Stopped::Refused)
+        }
+    }
+}
+
+// Ends it if the registry takes fewer commands than it needs.
+fn need_room<S: Alter, H: Shelf, I, O: Write, E: Write>(
+    alloc: Global,
+    first: &str,
+    needed: u64,
+    bench: &mut Bench<S, H>,
+    streams: &mut Streams<'_, I, O, E>,
+) -> Result<(), Stopped>
+    ensures { OnOk result (progress_of bench.new ≡ progress_of bench.old) }
+{
+    let room = u64::from(MAX_COMMANDS).saturating_sub(bench.accepted()?);
+    if needed <= room {
+        return Ok(());
+    }
+    say_no_room(alloc, first, needed, room, streams)?;
+    Err(Stopped::Refused)
+}
+
+// The steps that are left, and what they come to. If the key of one is refused, it ends here.
+fn plan_left<S: Alter, H: Shelf, I: BufRead, O: Write, E: Write>(
+    rt: &HostRuntime,
+    replacing: &Replacing<'_>,
+    first: &str,
+    going: Going,
+    bench: &mut Bench<S, H>,
+    streams: &mut Streams<'_, I, O, E>,
+) -> Result<Plan, Stopped>
+    requires { TakesCommands (progress_of bench.old) }
+    ensures { OnOk result (progress_of bench.new ≡ progress_of bench.old) }
+{
+    let left = left_of(rt.alloc(), replacing, first, going, bench)?;
+    if let Some(KeyRefused { act, number, why }) = left.refused {
+        let refused = Refused {
+            act,
+            number,
+            did: 0,
+            why,
+            state: None,
+        };
+        return Err(refuse(rt, replacing, first, refused, bench, streams));
+    }
+    plan_of(rt, replacing, left.steps, bench, streams)
+}
+
+// Does what is left of a replacement whose first command has this key, if all of that can be done.
 fn replace_under<S: Alter, H: Shelf, I: BufRead, O: Write, E: Write>(
     rt: &HostRuntime,
     replacing: &Replacing<'_>,
@@ -199,20 +206,29 @@ fn replace_under<S: Alter, H: Shelf, I: BufRead, O: Write, E: Write>(
         say_not_done(first, why, streams)?;
         return Err(Stopped::Refused);
     }
-    let way = way_of(alloc, replacing, first, bench, streams)?;
-    if way == Way::RemoveFirst {
+    let going = way_of(alloc, replacing, first, bench, streams)?;
+    let plan = plan_left(rt, replacing, first, going, bench, streams)?;
+    if let Some(stop) = plan.stop() {
+        refuse_at(rt, replacing, first, &plan, stop, bench, streams)?;
+    }
+    need_room(alloc, first, plan.judged.commands, bench, streams)?;
+    let Some(checks) = checks_left(rt, replacing, first, going.way, &plan, bench, streams)? else {
+        return Err(Stopped::Refused);
+    };
+    if going.way == Way::RemoveFirst && gives_up_first(&plan.steps) {
         say_removed_first(streams.complaints, replacing);
     }
-    if way == Way::Filled && !is_taken_out(alloc, replacing, first, streams)? {
-        return Err(Stopped::Refused);
-    }
-    go(rt, replacing, first, way, bench, streams)
+    let asked = Replacing {
+        checks,
+        ..*replacing
+    };
+    go(rt, &asked, first, going.way.steps(), bench, streams)
 }
 
 /// Puts an image in the place of another, or goes on with that, and prints the answers of the
 /// commands that it takes. The old one is removed only when the new one is ACTIVE, unless the
-/// mirror has no room for both. It is refused if one of the commands is, or if the new one can't be
-/// filled.
+/// mirror has no room for both. Nothing is handed in if one of the commands would be refused, or if
+/// what they take away isn't wanted. It is refused also if the new one can't be filled.
 pub fn replace<S: Alter, H: Shelf, I: BufRead, O: Write, E: Write>(
     rt: &HostRuntime,
     replacing: &Replacing<'_>,

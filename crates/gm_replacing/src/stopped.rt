@@ -2,6 +2,7 @@
 
 use gm_bench::BenchFault;
 use gm_faults::Fault;
+use gm_ways::WayFault;
 use std::alloc::AllocError;
 use std::io;
 
@@ -34,5 +35,14 @@ impl From<AllocError> for Stopped {
 impl From<io::Error> for Stopped {
     fn from(error: io::Error) -> Self {
         Stopped::Fault(Fault::from(error))
+    }
+}
+
+impl From<WayFault> for Stopped {
+    fn from(fault: WayFault) -> Self {
+        Stopped::Fault(Fault::Bench(match fault {
+            WayFault::Memory => BenchFault::Memory,
+            WayFault::Broken => BenchFault::Unreadable,
+        }))
     }
 }

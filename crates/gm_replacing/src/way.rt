@@ -1,66 +1,31 @@
-//! In which order an image takes another one's place.
+//! In which order an image takes another one's place, by the registry and the images.
 
 ghost use Rattle.std.specs.Prelude.{◌≡◌, OnOk};
 ghost use Rattle.gm_bench.specs.Benches.{progress_of};
 
+use crate::commands::exchange_of;
 use crate::filled::is_active_in;
+use crate::sayings::{say_not_done, say_nothing_there};
+use crate::stopped::Stopped;
 use gm_bench::{Bench, BenchFault};
+use gm_by_itself::following_key;
 use gm_command_line::Replacing;
 use gm_commands::Command;
 use gm_looks::{Standing, Unlike};
 use gm_metadata::Label;
+use gm_process::Streams;
 use gm_shelf::Shelf;
-use gm_state::{MAX_COMPONENTS, State};
+use gm_state::State;
+use gm_ways::{Act, Way, is_member, way_begun, way_by};
 use sqlite::Alter;
 use std::alloc::Global;
+use std::io::Write;
 
-/// In which order an image takes another one's place. The new one is always filled before the old
-/// one is removed, but if that can't be.
+/// A way, and whether it was begun before, under the keys that it has.
 #[derive(Clone, Copy, Debug, PartialEq, Eq)]
-pub(crate) enum Way {
-    /// The new one is inserted and filled, and the old one is removed.
-    InsertFirst,
-    /// The old one's image is gone: it is given up and forgotten, and the new one is inserted and
-    /// filled.
-    LostFirst,
-    /// The mirror has no room for both: the old one is removed, and the new one is inserted and
-    /// filled.
-    RemoveFirst,
-    /// The new one is in the mirror already: it is filled, and the old one is removed.
-    Inserted,
-    /// The new one is ACTIVE in the mirror already, so that the mirror gets a copy less: the old
-    /// one is removed if that is wanted.
-    Filled,
-    /// The old one isn't in the mirror any more: the new one is filled.
-    OnlyFill,
-}
-
-/// The way that was begun by a command, by its words as they are kept.
-pub(crate) fn way_begun(words: &str) -> Way {
-    match words.split(' ').next() {
-        Some("lost") => Way::LostFirst,
-        Some("remove") => Way::RemoveFirst,
-        _ => Way::InsertFirst,
-    }
-}
-
-// Whether the image is a component of the mirror.
-fn is_member(state: &State, mirror: Label, image: Label) -> bool {
-    match state.component(image) {
-        Some(component) => component.mirror == mirror,
-        None => false,
-    }
-}
-
-// Whether a mirror has as many components as one may have, and one is ACTIVE beside this one.
-fn must_make_room(state: &State, mirror: Label, old: Label) -> bool {
-    let Some(found) = state.mirror(mirror) else {
-        return false;
-    };
-    found.all == MAX_COMPONENTS
-        && state.components().iter().any(|component| {
-            component.mirror == mirror && component.provider != old && component.disk.is_active()
-        })
+pub(crate) struct Going {
+    pub(crate) way: Way,
+    pub(crate) is_begun: bool,
 }
 
 // Whether the image is among these that aren't as they are registered, because it is gone.
@@ -85,9 +50,9 @@ fn is_gone<S: Alter, H: Shelf>(
     Ok(is_absent(&unlike, image))
 }
 
-/// The way that is to be gone, as the mirror and the images are now; `None` if neither the old one
-/// nor the new one is in the mirror.
-pub(crate) fn way_now<S: Alter, H: Shelf>(
+// The way that is to be gone, as the mirror and the images are now; `None` if neither the old one
+// nor the new one is in the mirror. The images are looked at only if the old one alone is.
+fn way_now<S: Alter, H: Shelf>(
     alloc: Global,
     bench: &mut Bench<S, H>,
     state: &State,
@@ -96,21 +61,88 @@ pub(crate) fn way_now<S: Alter, H: Shelf>(
     ensures { OnOk result (progress_of bench.new ≡ progress_of bench.old) }
 {
     let mirror = replacing.mirror;
-    let has_old = is_member(state, mirror, replacing.old);
-    let has_new = is_member(state, mirror, replacing.new);
-    match (has_old, has_new) {
-        (false, false) => Ok(None),
-        (false, true) => Ok(Some(Way::OnlyFill)),
-        (true, true) if is_active_in(state, replacing.new) => Ok(Some(Way::Filled)),
-        (true, true) => Ok(Some(Way::Inserted)),
-        (true, false) => {
-            if is_gone(alloc, bench, mirror, replacing.old)? {
-                Ok(Some(Way::LostFirst))
-            } else if must_make_room(state, mirror, replacing.old) {
-                Ok(Some(Way::RemoveFirst))
-            } else {
-                Ok(Some(Way::InsertFirst))
-            }
+    let has_old_alone = is_member(state, mirror, replacing.old)
+        && !is_member(state, mirror, replacing.new);
+    let is_gone = has_old_alone && is_gone(alloc, bench, mirror, replacing.old)?;
+    Ok(way_by(state, &exchange_of(replacing), is_gone))
+}
+
+// Whether the old image was removed under the second key: that ends a replacement by a new one that
+// was in the mirror already.
+fn is_removed_under<S: Alter, H: Shelf>(
+    alloc: Global,
+    replacing: &Replacing<'_>,
+    first: &str,
+    bench: &mut Bench<S, H>,
+) -> Result<bool, Stopped>
+    ensures { OnOk result (progress_of bench.new ≡ progress_of bench.old) }
+{
+    let key = following_key(alloc, first, 2)?;
+    let Some(kept) = bench.kept(key.as_str())? else {
+        return Ok(false);
+    };
+    Ok(Act::Remove.is_said_by(alloc, &exchange_of(replacing), 0, kept.words.as_str())?)
+}
+
+// The way of a mirror that has the new image, and not the old one. If the new one is ACTIVE, there
+// is nothing to replace, unless that was done under these keys.
+fn way_without_old<S: Alter, H: Shelf, I, O: Write, E: Write>(
+    alloc: Global,
+    replacing: &Replacing<'_>,
+    first: &str,
+    state: &State,
+    bench: &mut Bench<S, H>,
+    streams: &mut Streams<'_, I, O, E>,
+) -> Result<Going, Stopped>
+    ensures { OnOk result (progress_of bench.new ≡ progress_of bench.old) }
+{
+    if is_removed_under(alloc, replacing, first, bench)? {
+        return Ok(Going {
+            way: Way::Inserted,
+            is_begun: true,
+        });
+    }
+    if is_active_in(state, replacing.new) {
+        let (mirror, old, new) = (replacing.mirror, replacing.old, replacing.new);
+        let why = format!(in alloc;
+            "{new} is ACTIVE in {mirror} already, and {old} isn't in it: nothing is replaced"
+        )?;
+        say_not_done(first, why.as_str(), streams)?;
+        return Err(Stopped::Refused);
+    }
+    Ok(Going {
+        way: Way::OnlyFill,
+        is_begun: false,
+    })
+}
+
+/// The way that was begun under the first key, or else the one that is to be gone now. If there is
+/// none, it is said why.
+pub(crate) fn way_of<S: Alter, H: Shelf, I, O: Write, E: Write>(
+    alloc: Global,
+    replacing: &Replacing<'_>,
+    first: &str,
+    bench: &mut Bench<S, H>,
+    streams: &mut Streams<'_, I, O, E>,
+) -> Result<Going, Stopped>
+    ensures { OnOk result (progress_of bench.new ≡ progress_of bench.old) }
+{
+    if let Some(kept) = bench.kept(first)? {
+        return Ok(Going {
+            way: way_begun(kept.words.as_str()),
+            is_begun: true,
+        });
+    }
+    let state = bench.view(alloc)?;
+    match way_now(alloc, bench, &state, replacing)? {
+        Some(Way::OnlyFill) => { way_without_old(alloc, replacing, first, &state, bench, streams) }
+        Some(way) => Ok(Going {
+            way,
+            is_begun: false,
+        }),
+        None => {
+            say_nothing_there(alloc, replacing, &state, streams)?;
+            Err(Stopped::Refused)
         }
     }
 }

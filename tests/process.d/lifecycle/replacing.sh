@@ -29,10 +29,15 @@ expect 'an image is replaced' 0 "$(lines 'g000004 ok 4\ngm0 c.img ACTIVE\ng00000
 at_bench status
 expect 'the mirror then' 0 "$(lines 'gm0             COMPLETE 2/2\n  a.img           ACTIVE\n  c.img           ACTIVE')" ''
 expect_same_data 'the new one has the data' "$bench/images/a.img" "$bench/images/c.img" 1536
+keep_bench
 at_bench replace gm0 b.img c.img
-expect 'the same again has nothing to do' 0 'gm0 c.img ACTIVE' ''
+expect 'the same again has nothing to replace' 1 'g000007 not done' \
+    'g000007: c.img is ACTIVE in gm0 already, and b.img isn'"'"'t in it: nothing is replaced'
+at_bench replace gm0 typo.img c.img
+expect_refused 'nor has an old image that is mistyped' 'g000007 not done' "typo.img isn't in it: nothing is replaced"
+expect_kept 'nothing was written'
 at_bench replace --key g000004 gm0 b.img c.img
-expect 'nor has it under its key' 0 "$(lines 'g000004 repeated 4\ngm0 c.img ACTIVE\ng000004.2 repeated 6')" \
+expect 'under its key it is told again' 0 "$(lines 'g000004 repeated 4\ngm0 c.img ACTIVE\ng000004.2 repeated 6')" \
     "$(lines 'g000004: done before, as number 4; nothing is done now\ng000004.2: done before, as number 6; nothing is done now')"
 
 filled_bench by-key
@@ -47,6 +52,9 @@ filled_bench begun
 at_bench insert gm0 c.img
 at_bench replace --quiet gm0 b.img c.img
 expect 'one that is inserted already' 0 "$(lines 'gm0 c.img ACTIVE\ng000005.2 ok 6')" ''
+at_bench replace --quiet --key g000005 gm0 b.img c.img
+expect 'under its key that is told again too' 0 "$(lines 'gm0 c.img ACTIVE\ng000005.2 repeated 6')" \
+    'g000005.2: done before, as number 6; nothing is done now'
 
 # ---- an image that is gone
 
@@ -79,13 +87,17 @@ expect 'after a lost answer the same words go on' 0 "$(lines 'gm0 c.img ACTIVE\n
 
 # ---- a mirror without room
 
-fresh_bench full
-add_image c.img
-batch "$label"
-for n in 2 3 4 5 6 7 8 9 10 11 12 13 14 15 16; do
-    add_image "m$n.img"
-    batch "i$n insert --did $n gm0 m$n.img\n"
-done
+full_bench() {
+    fresh_bench "$1"
+    add_image c.img
+    batch "$label"
+    for n in 2 3 4 5 6 7 8 9 10 11 12 13 14 15 16; do
+        add_image "m$n.img"
+        batch "i$n insert --did $n gm0 m$n.img\n"
+    done
+}
+
+full_bench full
 at_bench replace --quiet gm0 m5.img c.img
 expect 'where sixteen are in it' 0 "$(lines 'g000017 ok 17\ng000017.2 ok 18\ngm0 c.img ACTIVE')" \
     'gm0 has 16 components, the most: m5.img is removed first'
@@ -127,6 +139,121 @@ expect_refused 'an image that holds data' 'g000004 not done' 'c.img holds data, 
 at_bench replace --force --quiet gm0 b.img c.img
 expect 'unless they are not wanted' 0 "$(lines 'g000004 ok 4\ngm0 c.img ACTIVE\ng000004.2 ok 6')" ''
 
+# ---- what a later command would be refused for, before the first is handed in
+
+# Whether the last run did nothing, because this command of it would be refused, with this number and sentence.
+expect_foreseen() {
+    expect_refused "$1" "$2 not done" "$2: $3 would be refused, so nothing is done"
+    grep -qxF "$4" "$work/complaints" && pass "$1: it says why" || fail "$1: it says why" "$(cat "$work/complaints")"
+    expect_kept "$1: nothing is written"
+}
+
+# The old image is gone: it isn't given up for a new one that is mistyped.
+filled_bench mistyped
+rm "$bench/images/b.img"
+keep_bench
+at_bench replace gm0 b.img typo.img
+expect_foreseen 'a new image that is mistyped' g000004 insert "g000004.3: refused 8: typo.img isn't on the shelf"
+at_bench replace --quiet gm0 b.img c.img
+expect 'the right one then takes its place' 0 "$(lines 'g000004 ok 4\ng000004.2 ok 5\ng000004.3 ok 6\ngm0 c.img ACTIVE')" ''
+
+filled_bench mistyped-active
+batch 'k4 deactivate gm0 a.img\n'
+rm "$bench/images/b.img"
+keep_bench
+at_bench replace gm0 b.img c.img
+expect_foreseen 'an old image that is the last' g000005 lost 'g000005: refused 17: no ACTIVE component of gm0 would be left'
+
+# The mirror is full: the old image isn't wiped for a new one that it can't have.
+full_bench full-refused
+head -c 1536 /dev/zero >"$bench/images/small.img"
+add_image d.img
+batch 'k17 label --mid 8 --did 1 gm1 d.img\n'
+put_image "$bench/images/e.img" e bare
+keep_bench
+at_bench replace gm0 m5.img typo.img
+expect_foreseen 'sixteen, and a new image that is mistyped' g000018 insert "g000018.2: refused 8: typo.img isn't on the shelf"
+at_bench replace gm0 m5.img small.img
+expect_foreseen 'sixteen, and one that is too small' g000018 insert \
+    'g000018.2: refused 11: small.img has 1536 bytes; the data of gm0 and one sector more need 2048'
+at_bench replace gm0 m5.img d.img
+expect_foreseen 'sixteen, and one of another mirror' g000018 insert \
+    'g000018.2: refused 9: d.img is a component of a mirror already'
+at_bench replace gm0 m5.img e.img
+expect_refused 'sixteen, and one that holds data' 'g000018 not done' 'g000018: e.img holds data, first in sector 0'
+expect_kept 'sixteen, and one that holds data: nothing is written'
+batch 'k18 configure --autosync off gm0\n'
+keep_bench
+at_bench replace gm0 m5.img c.img
+expect_refused 'sixteen, and none is filled by itself' 'g000019 not done' \
+    'g000019: c.img would be STALE: configure --autosync on gm0 lets it be filled'
+expect_kept 'sixteen, and none is filled by itself: nothing is written'
+
+# A key that follows from the first has another command.
+taken='refused 3: the key was accepted for another command'
+filled_bench taken
+batch 'r.2 configure --autosync on gm0\nr.3 configure --autosync on gm0\n'
+keep_bench
+at_bench replace --key r gm0 b.img c.img
+expect_foreseen 'a second key of another command' r remove "r.2: $taken"
+filled_bench taken-third
+rm "$bench/images/b.img"
+batch 'r.3 configure --autosync on gm0\n'
+keep_bench
+at_bench replace --key r gm0 b.img c.img
+expect_foreseen 'a third key of another command' r insert "r.3: $taken"
+filled_bench taken-before
+batch 'r.2 remove gm0 b.img\nk5 insert --did 2 gm0 b.img\nk6 advance gm0 b.img\n'
+keep_bench
+at_bench replace --key r gm0 b.img c.img
+expect_foreseen 'a second key of a removal before' r remove "r.2: $taken"
+
+# The registry takes fewer commands than that needs.
+if command -v sqlite3 >/dev/null; then
+    filled_bench few
+    put_accepted 3 99998
+    keep_bench
+    at_bench replace gm0 b.img c.img
+    expect 'too few commands are left' 1 'g099999 not done' \
+        'g099999: this takes 3 commands, and the registry takes 2 more'
+    expect_kept 'too few commands are left: nothing is written'
+else
+    skip 'too few commands' 'there is no sqlite3(1) here'
+fi
+
+# What a later command takes away is asked about before the first is handed in.
+filled_bench gone-and-data
+rm "$bench/images/b.img"
+put_image "$bench/images/c.img" c bare
+keep_bench
+at_bench replace gm0 b.img c.img
+expect 'a new image with data, while the old one is gone' 1 'g000004 not done' \
+    "$(lines 'g000004: c.img holds data, first in sector 0: a sync writes over all of it\ng000004: --force carries it out all the same')"
+expect_kept 'nothing was given up'
+at_bench replace --force --quiet gm0 b.img c.img
+expect 'its data unless they are not wanted' 0 \
+    "$(lines 'g000004 ok 4\ng000004.2 ok 5\ng000004.3 ok 6\ngm0 c.img ACTIVE')" ''
+fresh_bench last-and-data
+put_image "$bench/images/c.img" c bare
+batch "${label}${insert}"
+keep_bench
+at_bench replace gm0 a.img c.img
+expect 'all that the commands take away is told at once' 1 'g000003 not done' \
+    "$(lines 'g000003: c.img holds data, first in sector 0: a sync writes over all of it\ng000003: c.img alone would be ACTIVE, while others aren'"'"'t filled: sync first\ng000003: --force carries it out all the same')"
+expect_kept 'nothing was inserted'
+
+# ---- a new image that is INACTIVE
+
+filled_bench inactive
+batch 'k4 insert --did 3 gm0 c.img\nk5 advance gm0 c.img\nk6 deactivate gm0 c.img\n'
+keep_bench
+at_bench replace gm0 b.img c.img
+expect 'one that is INACTIVE' 1 'gm0 c.img INACTIVE' 'c.img is INACTIVE: activate lets it be filled'
+expect_kept 'an INACTIVE one stays so'
+at_bench activate gm0 c.img
+at_bench replace --quiet gm0 b.img c.img
+expect 'after that it takes the place' 0 "$(lines 'gm0 c.img ACTIVE\ng000008.2 ok 9')" ''
+
 # ---- a new image that is ACTIVE already
 
 active_bench() {
@@ -153,24 +280,31 @@ at_bench replace --key r1 gm0 b.img c.img
 expect 'with its first key it goes on' 0 "$(lines 'r1 repeated 4\ngm0 c.img ACTIVE\nr1.2 ok 6')" \
     'r1: done before, as number 4; nothing is done now'
 
-# Types this answer when it asks.
+# Types this answer when it asks whether this old image is replaced, with this sentence.
 answer() {
-    printf '"%s" replace --quiet --registry "%s" --shelf "%s" gm0 b.img c.img >"%s"; echo "$?" >"%s"\n' "$gmbench" \
-        "$registry" "$bench/images" "$work/output" "$work/ended" >"$work/typed"
+    printf '"%s" replace --quiet --registry "%s" --shelf "%s" gm0 %s c.img >"%s"; echo "$?" >"%s"\n' "$gmbench" \
+        "$registry" "$bench/images" "$3" "$work/output" "$work/ended" >"$work/typed"
     printf "$1" | script -qec "sh $work/typed" /dev/null >"$work/terminal" 2>/dev/null
     status=$(cat "$work/ended")
-    grep -qF "$already" "$work/terminal" && grep -qF 'go on? (yes or no)' "$work/terminal" && pass "$2: a terminal is asked" ||
+    grep -qF "$4" "$work/terminal" && grep -qF 'go on? (yes or no)' "$work/terminal" && pass "$2: a terminal is asked" ||
         fail "$2: a terminal is asked" "$(cat "$work/terminal")"
     : >"$work/complaints"
 }
 if command -v script >/dev/null; then
     active_bench asked
     keep_bench
-    answer 'no\n' no
+    answer 'no\n' no b.img "$already"
     expect 'after no' 1 'g000006 not done' ''
     expect_kept 'nothing is written after no'
-    answer 'yes\n' yes
+    answer 'yes\n' yes b.img "$already"
     expect 'after yes' 0 "$(lines 'gm0 c.img ACTIVE\ng000006.2 ok 6')" ''
+
+    # Of two things that are lost it is asked once.
+    fresh_bench asked-once
+    put_image "$bench/images/c.img" c bare
+    batch "${label}${insert}"
+    answer 'yes\n' once a.img 'c.img alone would be ACTIVE'
+    expect 'after one yes' 0 "$(lines 'g000003 ok 3\ngm0 c.img ACTIVE\ng000003.2 ok 5')" ''
 else
     skip 'a question at a terminal' 'there is no script(1) here'
 fi

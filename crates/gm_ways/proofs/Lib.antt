@@ -1,0 +1,2 @@
+mod FactsShown
+mod Leading

@@ -1,0 +1,3 @@
+pub mod Judged
+pub mod Shown
+pub mod Ways
