@@ -20,15 +20,15 @@ from documents import SPAN, blank, lines_of, pages_of, text_of
 # How many words a page may have.
 WORDS = {
     "README.md": 700,
-    "CHANGELOG.md": 600,
+    "CHANGELOG.md": 650,
     "docs/ARCHITECTURE.md": 3050,
-    "docs/DECISIONS.md": 5200,
+    "docs/DECISIONS.md": 5300,
     "docs/DEFINITIONS.md": 4000,
     "docs/GATE.md": 550,
     "docs/PERFORMANCE.md": 1000,
-    "docs/PROOF.md": 3400,
-    "docs/REFERENCE.md": 9650,
-    "docs/USE.md": 5000,
+    "docs/PROOF.md": 3600,
+    "docs/REFERENCE.md": 9800,
+    "docs/USE.md": 5150,
 }
 # How many columns a line of prose has at most, and how many words a sentence; a span of code counts as one.
 COLUMNS, LONGEST = 100, 30
