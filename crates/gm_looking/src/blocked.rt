@@ -102,12 +102,13 @@ fn told(
     source: Label,
     copying: Copying,
 ) -> Result<String, AllocError> {
+    let target = copying.target;
     let mut text = String::new(rt.alloc());
     if let Some(place) = unread_in(rt, folder, source, copying) {
         writeln!(text, "F3: sector {place} of {source} can't be read")?;
     }
     push_waiting(&mut text, rt.alloc(), records)?;
-    push_way_on(&mut text, source, copying.target)?;
+    push_way_on(&mut text, source, target)?;
     Ok(text)
 }
 
