@@ -41,8 +41,9 @@ pub(crate) fn words_of<'a>(
     let mut words = Vec::new(alloc);
     words.push(act.name())?;
     if let Some(did) = did {
+        let number = did.as_str();
         words.push("--did")?;
-        words.push(did.as_str())?;
+        words.push(number)?;
     }
     words.push("--")?;
     words.push(mirror.as_str())?;
@@ -70,7 +71,8 @@ pub(crate) fn hand_in_step<S: Alter, H: Shelf, I: BufRead, O: Write, E: Write>(
     let key = following_key(alloc, first, number)?;
     let mirror = replacing.mirror;
     let image = act.image(&exchange_of(replacing));
-    let words = words_of(alloc, act, &None, &mirror, &image)?;
+    let did = None;
+    let words = words_of(alloc, act, &did, &mirror, &image)?;
     let single = Single {
         key: Some(key.as_str()),
         words: &words,

@@ -11,7 +11,7 @@ use gm_by_itself::free_did;
 use gm_command_line::Replacing;
 use gm_faults::Fault;
 use gm_process::Streams;
-use gm_refusals::{Facts, Refusal};
+use gm_refusals::Facts;
 use gm_shelf::{FileShelf, Shelf};
 use gm_state::State;
 use gm_ways::{Exchange, Judged, Step, facts_of, judge, names_of};
@@ -24,26 +24,6 @@ pub(crate) struct Plan {
     /// The number that a new component gets.
     pub(crate) did: u32,
     pub(crate) judged: Judged,
-}
-
-/// A step that would be refused, and why.
-#[derive(Clone, Copy)]
-pub(crate) struct Stop<'a> {
-    pub(crate) step: Step,
-    pub(crate) why: Refusal,
-    /// The records that it finds.
-    pub(crate) state: &'a State,
-}
-
-impl Plan {
-    /// The step that would be refused, if one would be.
-    pub(crate) fn stop(&self) -> Option<Stop<'_>> {
-        let why = self.judged.refused?;
-        let last = self.judged.found.len().checked_sub(1)?;
-        let step = *self.steps.get(last)?;
-        let state = self.judged.found.get(last)?;
-        Some(Stop { step, why, state })
-    }
 }
 
 // What is seen of the images that the steps are about.

@@ -16,26 +16,16 @@ use gm_lines::shown;
 use gm_process::Streams;
 use gm_shelf::Shelf;
 use gm_state::State;
-use gm_ways::{Act, Step, Way};
+use gm_ways::{Exchange, Step, Way, first_command};
 use sqlite::Alter;
 use std::alloc::{AllocError, Global};
 use std::io::{BufRead, Write};
-
-// The first command of these steps, with the number of its key.
-fn first_command(steps: &[Step]) -> Option<(Act, usize)> {
-    for step in steps {
-        if let Step::HandIn { act, number } = *step {
-            return Some((act, number));
-        }
-    }
-    None
-}
 
 // Whether an image stands in the way of the first command. Then that isn't handed in, and nothing
 // has to be asked.
 fn is_withheld<S: Alter, H: Shelf>(
     alloc: Global,
-    replacing: &Replacing<'_>,
+    exchange: &Exchange,
     first: &str,
     plan: &Plan,
     bench: &mut Bench<S, H>,
@@ -46,68 +36,81 @@ fn is_withheld<S: Alter, H: Shelf>(
         return Ok(false);
     };
     let key = following_key(alloc, first, number)?;
-    let command = act.command(alloc, &exchange_of(replacing), plan.did)?;
+    let command = act.command(alloc, exchange, plan.did)?;
     let list = in_the_way(alloc, bench, key.as_str(), &command)?;
     Ok(!list.is_empty())
 }
 
-// Moves sentences to the end of others.
-fn add(all: &mut Vec<String>, sentences: Vec<String>) -> Result<(), AllocError> {
+// Adds copies of sentences.
+fn push_all(alloc: Global, all: &mut Vec<String>, sentences: &[String]) -> Result<(), AllocError> {
     for sentence in sentences {
-        all.push(sentence)?;
+        let copy = String::from_str(alloc, sentence.as_str())?;
+        all.push(copy)?;
     }
     Ok(())
 }
 
-// What a step would take away from the records that it finds, and from the images.
-fn told_of_step<I, O, E: Write>(
+// Adds what a step would take away from the records that it finds, and from the images.
+fn push_step<I, O, E: Write>(
     rt: &HostRuntime,
-    replacing: &Replacing<'_>,
+    exchange: &Exchange,
     did: u32,
     step: Step,
     state: &State,
+    sentences: &mut Vec<String>,
     streams: &mut Streams<'_, I, O, E>,
-) -> Result<Vec<String>, Fault> {
-    let Step::HandIn {
-        act,
-        number: _number,
-    } = step
-    else {
-        return Ok(Vec::new(rt.alloc()));
-    };
-    let command = act.command(rt.alloc(), &exchange_of(replacing), did)?;
-    losses_told(rt, state, &command, streams)
+) -> Result<(), Fault> {
+    match step {
+        Step::Fill => Ok(()),
+        Step::HandIn {
+            act,
+            number: _number,
+        } => {
+            let command = act.command(rt.alloc(), exchange, did)?;
+            let told = losses_told(rt, state, &command, streams)?;
+            push_all(rt.alloc(), sentences, &told)?;
+            Ok(())
+        }
+    }
 }
 
-// That the old image goes, and nothing comes: the new one was ACTIVE before.
-fn told_of_way(
+// Adds that the old image goes, and nothing comes: the new one was ACTIVE before.
+fn push_way(
     alloc: Global,
-    replacing: &Replacing<'_>,
+    exchange: &Exchange,
     way: Way,
-) -> Result<Vec<String>, AllocError> {
-    let mut sentences = Vec::new(alloc);
+    sentences: &mut Vec<String>,
+) -> Result<(), AllocError> {
     if way == Way::Filled {
-        let (mirror, old, new) = (replacing.mirror, replacing.old, replacing.new);
+        let Exchange { mirror, old, new } = *exchange;
         let sentence = format!(in alloc;
             "{new} is ACTIVE in {mirror} already: {old} is taken out, and nothing is put in its place"
         )?;
         sentences.push(sentence)?;
     }
-    Ok(sentences)
+    Ok(())
 }
 
 // What the steps would take away, in a sentence each.
 fn sentences_of<I, O, E: Write>(
     rt: &HostRuntime,
-    replacing: &Replacing<'_>,
+    exchange: &Exchange,
     way: Way,
     plan: &Plan,
     streams: &mut Streams<'_, I, O, E>,
 ) -> Result<Vec<String>, Fault> {
-    let mut sentences = told_of_way(rt.alloc(), replacing, way)?;
+    let mut sentences = Vec::new(rt.alloc());
+    push_way(rt.alloc(), exchange, way, &mut sentences)?;
     for (step, state) in plan.steps.iter().zip(plan.judged.found.iter()) {
-        let told = told_of_step(rt, replacing, plan.did, *step, state, streams)?;
-        add(&mut sentences, told)?;
+        push_step(
+            rt,
+            exchange,
+            plan.did,
+            *step,
+            state,
+            &mut sentences,
+            streams,
+        )?;
     }
     Ok(sentences)
 }
@@ -144,10 +147,14 @@ pub(crate) fn checks_left<S: Alter, H: Shelf, I: BufRead, O: Write, E: Write>(
 {
     let alloc = rt.alloc();
     let checks = replacing.checks;
-    if !checks.losses || checks.images && is_withheld(alloc, replacing, first, plan, bench)? {
+    if !checks.losses {
         return Ok(Some(checks));
     }
-    let sentences = sentences_of(rt, replacing, way, plan, streams)?;
+    let exchange = exchange_of(replacing);
+    if checks.images && is_withheld(alloc, &exchange, first, plan, bench)? {
+        return Ok(Some(checks));
+    }
+    let sentences = sentences_of(rt, &exchange, way, plan, streams)?;
     if !is_agreed(alloc, first, &sentences, streams)? {
         return Ok(None);
     }

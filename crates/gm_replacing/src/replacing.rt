@@ -8,7 +8,7 @@ ghost use Rattle.gm_process.specs.Statuses.{MayRefuse};
 use crate::commands::hand_in_step;
 use crate::filled::fill_new;
 use crate::keys::{KeyRefused, left_of};
-use crate::plan::{Plan, Stop, plan_of};
+use crate::plan::{Plan, plan_of};
 use crate::questions::checks_left;
 use crate::sayings::{
     Refused, say_no_room, say_not_done, say_refused, say_removed_first, say_unfilled,
@@ -23,7 +23,7 @@ use gm_faults::Fault;
 use gm_process::{Status, Streams};
 use gm_refusals::CallRefusal;
 use gm_shelf::Shelf;
-use gm_ways::{Act, Step, Way, gives_up_first};
+use gm_ways::{Act, Step, Stop, Way, gives_up_first, stop_of};
 use sqlite::Alter;
 use std::alloc::{AllocError, Global};
 use std::io::{BufRead, Write};
@@ -32,7 +32,7 @@ use std::io::{BufRead, Write};
 const LAST: usize = 3;
 
 // Takes a step: hands in its command, or fills the new image.
-fn take<S: Alter, H: Shelf, I: BufRead, O: Write, E: Write>(
+fn take_step<S: Alter, H: Shelf, I: BufRead, O: Write, E: Write>(
     rt: &HostRuntime,
     asked: &Replacing<'_>,
     first: &str,
@@ -62,7 +62,7 @@ fn go<S: Alter, H: Shelf, I: BufRead, O: Write, E: Write>(
     ensures { OnOk result (TakesCommands (progress_of bench.new)) }
 {
     for step in steps {
-        take(rt, asked, first, *step, bench, streams)?;
+        take_step(rt, asked, first, *step, bench, streams)?;
     }
     Ok(())
 }
@@ -208,7 +208,7 @@ fn replace_under<S: Alter, H: Shelf, I: BufRead, O: Write, E: Write>(
     }
     let going = way_of(alloc, replacing, first, bench, streams)?;
     let plan = plan_left(rt, replacing, first, going, bench, streams)?;
-    if let Some(stop) = plan.stop() {
+    if let Some(stop) = stop_of(&plan.judged, &plan.steps) {
         refuse_at(rt, replacing, first, &plan, stop, bench, streams)?;
     }
     need_room(alloc, first, plan.judged.commands, bench, streams)?;

@@ -47,7 +47,10 @@ pub(crate) fn say_not_done<I, O: Write, E: Write>(
 // The number of a new component as a word, if the command has one.
 fn did_word(alloc: Global, refused: Refused<'_>) -> Result<Option<String>, AllocError> {
     match refused.act {
-        Act::Insert => Ok(Some(format!(in alloc; "{}", refused.did)?)),
+        Act::Insert => {
+            let did = refused.did;
+            Ok(Some(format!(in alloc; "{did}")?))
+        }
         _ => Ok(None),
     }
 }

@@ -61,10 +61,13 @@ fn way_now<S: Alter, H: Shelf>(
     ensures { OnOk result (progress_of bench.new ≡ progress_of bench.old) }
 {
     let mirror = replacing.mirror;
-    let has_old_alone = is_member(state, mirror, replacing.old)
-        && !is_member(state, mirror, replacing.new);
-    let is_gone = has_old_alone && is_gone(alloc, bench, mirror, replacing.old)?;
-    Ok(way_by(state, &exchange_of(replacing), is_gone))
+    let has_new = is_member(state, mirror, replacing.new);
+    let gone = if is_member(state, mirror, replacing.old) && !has_new {
+        is_gone(alloc, bench, mirror, replacing.old)?
+    } else {
+        false
+    };
+    Ok(way_by(state, &exchange_of(replacing), gone))
 }
 
 // Whether the old image was removed under the second key: that ends a replacement by a new one that

@@ -53,6 +53,12 @@ gives_up_first [] = false
 gives_up_first (Fill ∷ steps) = false
 gives_up_first (HandIn act number ∷ steps) = gives_up act
 
+-- the first command of them, with the number of its key
+abbrev pub first_command : List Step → Option (Act × ℕ)
+first_command [] = None
+first_command (Fill ∷ steps) = first_command steps
+first_command (HandIn act number ∷ steps) = Some (act, number)
+
 -- none removes an image before another was filled
 abbrev pub removes_filled : List Step → Bool
 removes_filled [] = true

@@ -1,10 +1,12 @@
 //! What steps come to that are decided one after the other, each on the records that those before
 //! it leave.
 
-ghost use Rattle.std.specs.Prelude.{◌≡◌, ◌++◌, ◌∷◌, [], ℕ, IfOk, OnOk};
-ghost use Rattle.gm_refusals.specs.Seen.{seen_in};
+ghost use Rattle.std.specs.Prelude.{◌≡◌, ◌++◌, ◌∷◌, [], ℕ, IfNone, IfOk, IfSome, OnOk};
+ghost use Rattle.gm_refusals.specs.Seen.{Seen, seen_in};
+ghost use Rattle.gm_state.specs.Records.{Records};
+ghost use Rattle.gm_ways.specs.declared.step.Exchange.{Exchange};
 ghost use Rattle.gm_ways.specs.declared.step.Step.TheVariants.{Fill};
-ghost use Rattle.gm_ways.specs.Judged.{FollowsOr, Judges, PassesOr, is_filled};
+ghost use Rattle.gm_ways.specs.Judged.{FollowsOr, IsRefused, Judges, PassesOr, is_filled};
 
 use crate::fault::WayFault;
 use crate::step::{Exchange, Step};
@@ -34,6 +36,15 @@ pub struct Judged {
     pub commands: u64,
     /// Why the last of them is refused; `None` if all are done.
     pub refused: Option<Refusal>,
+}
+
+/// A step that is refused, and why.
+#[derive(Clone, Copy)]
+pub struct Stop<'a> {
+    pub step: Step,
+    pub why: Refusal,
+    /// The records that it finds.
+    pub state: &'a State,
 }
 
 // What a command leaves, or why it is refused.
@@ -179,4 +190,21 @@ pub fn judge(
         commands,
         refused: None,
     })
+}
+
+/// The one of these steps that is refused, if one is.
+pub fn stop_of<'a>(judged: &'a Judged, steps: &[Step]) -> Option<Stop<'a>>
+    ensures why { IfSome result (λ stop. judged.now.refused ≡ Some stop.why) }
+    ensures refused { (x : Seen) (e : Exchange) (did : ℕ) (s : Records)
+        → Judges x e did steps.now s judged.now
+        → IfSome result (λ stop. IsRefused x e did stop.step stop.state.now stop.why) }
+    ensures none { (x : Seen) (e : Exchange) (did : ℕ) (s : Records)
+        → Judges x e did steps.now s judged.now
+        → IfNone result (judged.now.refused ≡ None) }
+{
+    let why = judged.refused?;
+    let last = judged.found.len().checked_sub(1)?;
+    let step = *steps.get(last)?;
+    let state = judged.found.get(last)?;
+    Some(Stop { step, why, state })
 }

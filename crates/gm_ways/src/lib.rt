@@ -13,7 +13,9 @@ mod step;
 mod way;
 
 pub use fault::WayFault;
-pub use judging::{Judged, judge};
+pub use judging::{Judged, Stop, judge, stop_of};
 pub use shown::{facts_of, names_of};
 pub use step::{Act, Exchange, Step};
-pub use way::{Way, gives_up_first, is_member, removes_only_what_is_filled, way_begun, way_by};
+pub use way::{
+    Way, first_command, gives_up_first, is_member, removes_only_what_is_filled, way_begun, way_by,
+};

@@ -5,7 +5,7 @@ ghost use Rattle.std.specs.List.{list_any};
 ghost use Rattle.gm_metadata.specs.Images.{same_label};
 ghost use Rattle.gm_state.specs.Lookups.{is_active};
 ghost use Rattle.gm_state.specs.Records.{members};
-ghost use Rattle.gm_ways.specs.Ways.{another_stays, gives_up_first, is_member, must_make_room, removes_filled, steps_of, way_by};
+ghost use Rattle.gm_ways.specs.Ways.{another_stays, first_command, gives_up_first, is_member, must_make_room, removes_filled, steps_of, way_by};
 
 use crate::step::{Act, Exchange, Step};
 use gm_metadata::Label;
@@ -105,6 +105,18 @@ pub fn gives_up_first(steps: &[Step]) -> bool
         ) => matches!(act, Act::Remove | Act::Lost),
         _ => false,
     }
+}
+
+/// The first command of the steps, with the number of its key.
+pub fn first_command(steps: &[Step]) -> Option<(Act, usize)>
+    ensures { result ≡ first_command steps.now }
+{
+    for step in steps {
+        if let Step::HandIn { act, number } = *step {
+            return Some((act, number));
+        }
+    }
+    None
 }
 
 /// The way that was begun by a command, by its words as they are kept.

@@ -222,13 +222,15 @@ else
 fi
 
 # What a later command takes away is asked about before the first is handed in.
+holds='c.img holds data, first in sector 0: a sync writes over all of it'
+alone="c.img alone would be ACTIVE, while others aren't filled: sync first"
+forced='--force carries it out all the same'
 filled_bench gone-and-data
 rm "$bench/images/b.img"
 put_image "$bench/images/c.img" c bare
 keep_bench
 at_bench replace gm0 b.img c.img
-expect 'a new image with data, while the old one is gone' 1 'g000004 not done' \
-    "$(lines 'g000004: c.img holds data, first in sector 0: a sync writes over all of it\ng000004: --force carries it out all the same')"
+expect 'a new image with data, while the old one is gone' 1 'g000004 not done' "$(lines "g000004: $holds\ng000004: $forced")"
 expect_kept 'nothing was given up'
 at_bench replace --force --quiet gm0 b.img c.img
 expect 'its data unless they are not wanted' 0 \
@@ -239,7 +241,7 @@ batch "${label}${insert}"
 keep_bench
 at_bench replace gm0 a.img c.img
 expect 'all that the commands take away is told at once' 1 'g000003 not done' \
-    "$(lines 'g000003: c.img holds data, first in sector 0: a sync writes over all of it\ng000003: c.img alone would be ACTIVE, while others aren'"'"'t filled: sync first\ng000003: --force carries it out all the same')"
+    "$(lines "g000003: $holds\ng000003: $alone\ng000003: $forced")"
 expect_kept 'nothing was inserted'
 
 # ---- a new image that is INACTIVE
