@@ -29,8 +29,11 @@ log_kind bytes head =
 -- what is in the way of files of these kinds, if a registry is made if there is none, or isn't
 abbrev pub obstacle_of : FileKind → LogKind → Bool → Option StoreCause
 obstacle_of file.Missing log.Empty makes = if makes then None else Some cause.Missing
-obstacle_of file.Missing log.Filled makes = if makes then None else Some cause.Missing
+obstacle_of file.Missing log.Filled makes = Some (if makes then cause.LogAlone else cause.Missing)
 obstacle_of file.Missing log.Other makes = Some (if makes then cause.OtherLog else cause.Missing)
+obstacle_of file.Blank log.Empty makes = if makes then None else Some cause.Empty
+obstacle_of file.Blank log.Filled makes = Some cause.LogAlone
+obstacle_of file.Blank log.Other makes = Some cause.OtherLog
 obstacle_of file.Database log.Empty makes = None
 obstacle_of file.Database log.Filled makes = None
 obstacle_of file.Database log.Other makes = Some cause.OtherLog
