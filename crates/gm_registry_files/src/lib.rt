@@ -6,11 +6,12 @@
 //! opened to be written: another file with the name of the log (`log.rt`), or a database of another
 //! program (`foreign.rt`). `opened.rt` opens or makes them. `unopened.rt` reads them by an overlay,
 //! so that nothing is written, under the locks of `shared.rt`. `unusable.rt` says why a registry
-//! can't be opened.
+//! can't be opened. `laws.rt` has what holds of the first bytes of logs.
 #![tactic(auto)]
 
 mod beside;
 mod foreign;
+mod laws;
 mod log;
 mod obstacle;
 mod opened;
@@ -20,6 +21,7 @@ mod unopened;
 mod unusable;
 
 pub use beside::without_beside;
+pub use laws::{signed_heads_pass, stopped_heads_pass};
 pub use obstacle::{Obstacle, obstacle_to_opening, obstacle_to_reading};
 pub use opened::open_store;
 pub use registry_files::{is_there, leave_out_registry, length_of};

@@ -6,7 +6,7 @@
 //! 1 to 3 are the same before and after.
 
 ghost use Rattle.std.specs.Prelude.{◌≡◌};
-ghost use Rattle.gm_registry_files.specs.Obstacles.{is_gate, is_log_head, log_kind};
+ghost use Rattle.gm_registry_files.specs.Obstacles.{is_gate, is_log_head, is_order, log_kind};
 
 use std::fs::File;
 use std::io;
@@ -32,11 +32,17 @@ fn is_gate(byte: u8) -> bool
     byte == 0x37 || byte == 0
 }
 
+fn is_order(byte: u8) -> bool
+    ensures { result ≡ is_order byte }
+{
+    byte == 0x82 || byte == 0x83
+}
+
 // Whether a log begins so that holds something.
 fn is_log_head(head: &[u8; 4]) -> bool
     ensures { result ≡ is_log_head head.now }
 {
-    is_gate(head[0]) && head[1] == 0x7f && head[2] == 0x06 && (head[3] == 0x82 || head[3] == 0x83)
+    is_gate(head[0]) && head[1] == 0x7f && head[2] == 0x06 && is_order(head[3])
 }
 
 // What a file is that is so long, and begins so.

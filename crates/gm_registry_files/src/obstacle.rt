@@ -6,12 +6,15 @@ ghost use Rattle.gm_registry_files.specs.Obstacles.{obstacle_of};
 
 use crate::foreign::foreign_fault;
 use crate::log::{LogKind, kind_of_log};
+use crate::opened::is_blank;
 use crate::registry_files::file_fault;
-use crate::shared::{log_of, shared_files};
+use crate::shared::{SharedFiles, disks_over, log_of, shared_files};
 use crate::unopened::records_of;
 use crate::unusable::{StoreCause, cause_of_none, is_no_database, store_cause};
 use gm_registry::StoreFault;
+use sqlite::{Error, ErrorCode};
 use std::fs;
+use std::hash::{BuildHasher, RandomState};
 use std::io::{self, ErrorKind};
 
 /// What is in the way of a registry.
@@ -37,7 +40,9 @@ impl Obstacle {
 pub enum FileKind {
     /// Nothing has its name.
     Missing,
-    /// A database, or what is left to SQLite's crate to be told from one.
+    /// It is empty, or as a stop leaves one while it is made.
+    Blank,
+    /// Anything else: SQLite's crate says whether it is a database.
     Database,
 }
 
@@ -49,7 +54,24 @@ fn obstacle_of(file: FileKind, log: LogKind, makes: bool) -> Option<StoreCause>
     match (file, log) {
         (FileKind::Missing, _) if !makes => Some(StoreCause::Missing),
         (_, LogKind::Other) => Some(StoreCause::OtherLog),
-        _ => None,
+        (FileKind::Database, _) => None,
+        (_, LogKind::Filled) => Some(StoreCause::LogAlone),
+        (_, LogKind::Empty) if makes => None,
+        (_, LogKind::Empty) => Some(StoreCause::Empty),
+    }
+}
+
+// What a registry's own file is.
+fn file_kind(rt: &HostRuntime, shared: SharedFiles) -> io::Result<FileKind> {
+    let key = RandomState::new(rt)?.hash_one(&0u8);
+    let mut files = disks_over(rt.alloc(), shared, key)?;
+    match is_blank(rt.alloc(), &mut files) {
+        Ok(true) => Ok(FileKind::Blank),
+        Ok(false) => Ok(FileKind::Database),
+        Err(Error::SqliteFailure(ErrorCode::OutOfMemory)) => {
+            Err(io::Error::from(ErrorKind::OutOfMemory))
+        }
+        Err(_) => Err(io::Error::from(ErrorKind::Other)),
     }
 }
 
@@ -58,7 +80,8 @@ fn kinds_at(rt: &HostRuntime, registry: &str) -> io::Result<(FileKind, LogKind)>
     match fs::canonicalize(rt, registry) {
         Ok(real) => {
             let shared = shared_files(rt, real.as_str())?;
-            Ok((FileKind::Database, kind_of_log(&shared.log)?))
+            let log = kind_of_log(&shared.log)?;
+            Ok((file_kind(rt, shared)?, log))
         }
         Err(e) if e.kind() == ErrorKind::NotFound => {
             let log = log_of(rt, registry)?;

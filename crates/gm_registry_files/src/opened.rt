@@ -4,12 +4,16 @@
 //! pages, however long they are, and each is digested and logged whole: half of that length saves a
 //! sixth of a command's instructions. Files that hold a database keep its pages.
 
-ghost use Rattle.std.specs.Prelude.{IsTrue, IfOk};
+ghost use Rattle.std.specs.Prelude.{◌≡◌, ◌↔◌, IsTrue, IfOk};
 ghost use Rattle.sqlite.specs.Files.{file_state, IsOpened};
 ghost use Rattle.sqlite.specs.State.{HasCleanDisk};
 ghost use Rattle.sqlite.specs.Steps.{IsFresh};
+ghost use Rattle.sqlite_pool.specs.Opening.{IsBlankFile};
 ghost use Rattle.sqlite_store.specs.FileStore.{view};
 ghost use Rattle.sqlite_trees.specs.View.{IsClean};
+ghost use Rattle.sqlite_wal.specs.Files.{seen_image};
+ghost use Rattle.sqlite_wal.specs.PageSize.{bytes_of};
+ghost use Rattle.sqlite_wal.specs.Reads.{AreClean, OnlyReads};
 
 use sqlite::{Connection, Error, ErrorCode, File, FileStore, Files, Options, Unknown};
 use sqlite_disk::Disk;
@@ -89,6 +93,45 @@ fn connect<D: Disk + Drop>(
     }
 }
 
+fn page_size() -> PageSize
+    ensures { bytes_of result ≡ 2048 }
+{
+    PageSize::new(PAGE_BYTES).unwrap()
+}
+
+/// Whether these files hold no database yet: they are empty, or as a stop leaves them while one is
+/// made. Nothing is written.
+pub(crate) fn is_blank<D: Disk>(alloc: Global, files: &mut Files<D>) -> Result<bool, Error>
+    requires log { IsTrue (D.Disk.is_usable files.old.log) }
+    requires db { IsTrue (D.Disk.is_usable files.old.db) }
+    ensures blank { IfOk result (λ b. AreClean D.Disk files.new.log files.new.db
+        → (IsTrue b ↔ IsBlankFile 2048 (seen_image D.Disk files.old.log files.old.db))) }
+    ensures log { OnlyReads D.Disk files.old.log files.new.log }
+    ensures db { OnlyReads D.Disk files.old.db files.new.db }
+{
+    match probe_blank(alloc, files, page_size(), false) {
+        Ok(blank) => Ok(blank),
+        Err(sqlite_pager::Error::OutOfMemory) => Err(NO_MEMORY),
+        Err(_) => Err(FAILED),
+    }
+}
+
+// The connection to the database that these files hold.
+fn open_database<D: Disk + Drop>(
+    alloc: Global,
+    files: Files<D>,
+    options: Options,
+) -> Result<Connection<FileStore<D>>, (Error, Files<D>)>
+    requires log { IsTrue (D.Disk.is_usable files.log) }
+    requires db { IsTrue (D.Disk.is_usable files.db) }
+    ensures { IfOk result (λ c. HasCleanDisk (file_state c) → IsOpened c) }
+{
+    match Connection::open_files(alloc, files, options) {
+        Ok(store) => Ok(store),
+        Err((error, left)) => Err((error, left.into_files())),
+    }
+}
+
 /// Opens the database that these files hold, or makes one if they hold none. An error comes with
 /// the files.
 pub(crate) fn open_files<D: Disk + Drop>(
@@ -100,15 +143,10 @@ pub(crate) fn open_files<D: Disk + Drop>(
     requires db { IsTrue (D.Disk.is_usable files.db) }
     ensures { IfOk result (λ c. HasCleanDisk (file_state c) → IsOpened c) }
 {
-    let size = PageSize::new(PAGE_BYTES).unwrap();
-    match probe_blank(alloc, &mut files, size, false) {
-        Ok(true) => connect(alloc, files, size, options),
-        Ok(false) => match Connection::open_files(alloc, files, options) {
-            Ok(store) => Ok(store),
-            Err((error, left)) => Err((error, left.into_files())),
-        },
-        Err(sqlite_pager::Error::OutOfMemory) => Err((NO_MEMORY, files)),
-        Err(_) => Err((FAILED, files)),
+    match is_blank(alloc, &mut files) {
+        Ok(true) => connect(alloc, files, page_size(), options),
+        Ok(false) => open_database(alloc, files, options),
+        Err(error) => Err((error, files)),
     }
 }
 

@@ -32,6 +32,10 @@ pub enum StoreCause {
     Journal,
     /// No database begins as it does.
     NoDatabase,
+    /// It is empty, or as a stop leaves one while it is made.
+    Empty,
+    /// It is empty or away, and its log may hold commands.
+    LogAlone,
     /// Another file has the name of its log.
     OtherLog,
     /// It is a database with other tables.
@@ -61,6 +65,8 @@ impl StoreCause {
             StoreCause::InUse => "another program has PATH open",
             StoreCause::Journal => "PATH has a rollback journal: open it with sqlite3 first",
             StoreCause::NoDatabase => "PATH isn't a registry: no database begins as it does",
+            StoreCause::Empty => "PATH holds no registry: it is empty, or its making was stopped",
+            StoreCause::LogAlone => "PATH holds no registry, but its log may hold commands of one",
             StoreCause::OtherLog => "PATH-wal isn't a registry's log: another file has its name",
             StoreCause::Foreign => "PATH is a database of another program",
             StoreCause::Failed =>

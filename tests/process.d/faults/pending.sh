@@ -17,7 +17,8 @@ expect 'a status of one that is not there' 3 '' 'gmbench: F2 store'
 keep_none 'none is made for it'
 : >"$registry"
 run pending --registry "$registry"
-expect 'an empty file' 0 '' ''
+expect 'an empty file' 3 '' 'gmbench: F2 store'
+expect_none 'nothing is put beside it' "$registry-wal"
 printf 'no registry, but text\n' >"$registry"
 run pending --registry "$registry"
 expect 'a file that is no registry' 3 '' 'gmbench: F2 store'
@@ -112,6 +113,9 @@ expect 'a journal that holds something' 3 '' 'gmbench: F2 store'
 : >"$registry-journal"
 run pending --registry "$registry"
 expect 'an empty one' 0 "$(lines 'clear b.img\nmetadata of a.img')" ''
+printf '\000x' >"$registry-journal"
+run pending --registry "$registry"
+expect 'one that begins with a zero, as SQLite leaves it' 0 "$(lines 'clear b.img\nmetadata of a.img')" ''
 rm "$registry-journal"
 if command -v flock >/dev/null; then
     (

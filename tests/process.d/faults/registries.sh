@@ -277,17 +277,20 @@ readers='check pending list@--read-only status@--read-only audit@--read-only'
 
 # Whether each of these commands says this of the registry, and leaves each byte of the folder of images as it was kept.
 expect_untouched() {
+    GMBENCH_EXPLAIN=1
+    export GMBENCH_EXPLAIN
     for words in $3; do
-        command=$(echo "$words" | tr @ ' ')
-        GMBENCH_EXPLAIN=1 at_bench $command </dev/null
-        expect "$command: $1" 3 '' "gmbench: F2 store
+        tried=$(echo "$words" | tr @ ' ')
+        at_bench $tried </dev/null
+        expect "$tried: $1" 3 '' "gmbench: F2 store
 F2: $2"
         if other=$(diff -r "$bench/images" "$work/kept-folder" 2>&1); then
-            pass "$command leaves each byte: $1"
+            pass "$tried leaves each byte: $1"
         else
-            fail "$command leaves each byte: $1" "$other"
+            fail "$tried leaves each byte: $1" "$other"
         fi
     done
+    unset GMBENCH_EXPLAIN
 }
 keep_folder() {
     rm -rf "$work/kept-folder"
@@ -342,6 +345,45 @@ for length in 41 42; do
             "$registry-wal isn't a registry's log: another file has its name" recover
     fi
 done
+
+# ---- files that hold no registry
+
+# Empty, or of one byte, as a stop leaves one while a registry is made: what makes a registry makes it there.
+turn=0
+for content in '' '\000' S; do
+    turn=$((turn + 1))
+    fresh_bench "blank-$turn"
+    registry=$bench/images/x
+    printf "$content" >"$registry"
+    keep_folder
+    expect_untouched "a file of '$content'" "$registry holds no registry: it is empty, or its making was stopped" \
+        "$openers $readers"
+    run pending --registry "$registry" --explain
+    expect "pending without a folder: a file of '$content'" 3 '' "gmbench: F2 store
+F2: $registry holds no registry: it is empty, or its making was stopped"
+    at_bench status
+    expect "a status over a file of '$content' makes one" 0 'no mirrors' ''
+    at_bench check
+    [ "$status" = 0 ] && pass "it is well then, after '$content'" || fail "it is well then, after '$content'" "status $status"
+done
+
+# A registry that was emptied or taken away beside its log with commands.
+fresh_bench emptied
+registry=$bench/images/x
+kill_batch "$label"
+cp -R "$bench/images" "$work/emptied-kept"
+: >"$registry"
+keep_folder
+expect_untouched 'emptied beside its log' "$registry holds no registry, but its log may hold commands of one" \
+    "$makers $openers $readers"
+rm "$registry"
+keep_folder
+expect_untouched 'away from its log' "$registry holds no registry, but its log may hold commands of one" "$makers"
+expect_untouched 'away from its log' "there is no registry at $registry" "$openers $readers"
+rm -rf "$bench/images"
+cp -R "$work/emptied-kept" "$bench/images"
+at_bench recover
+expect 'both as they were' 0 'recovered 1' ''
 
 # ---- files that are refused get no log
 
