@@ -22,7 +22,7 @@ WORDS = {
     "README.md": 700,
     "CHANGELOG.md": 650,
     "docs/ARCHITECTURE.md": 3050,
-    "docs/DECISIONS.md": 5300,
+    "docs/DECISIONS.md": 5400,
     "docs/DEFINITIONS.md": 4000,
     "docs/GATE.md": 550,
     "docs/PERFORMANCE.md": 1000,
