@@ -56,6 +56,12 @@ fn unread_sector<H: Shelf>(shelf: &mut H, image: Label, copying: Copying) -> Opt
     None
 }
 
+// The same of an image of a folder; `None` too if the folder can't be read.
+fn unread_in(rt: &HostRuntime, folder: &str, image: Label, copying: Copying) -> Option<u32> {
+    let mut shelf = FileShelf::look_at(rt, folder, &[image]).ok()?;
+    unread_sector(&mut shelf, image, copying)
+}
+
 // The mirrors that wait for pending writes, by their names.
 fn waiting_mirrors(alloc: Global, records: &Loaded) -> Result<BTreeSet<Label>, AllocError> {
     let mut names = BTreeSet::new(alloc);
@@ -96,14 +102,13 @@ fn told(
     source: Label,
     copying: Copying,
 ) -> Result<String, AllocError> {
+    let target = copying.target;
     let mut text = String::new(rt.alloc());
-    if let Ok(mut shelf) = FileShelf::look_at(rt, folder, &[source]) {
-        if let Some(place) = unread_sector(&mut shelf, source, copying) {
-            writeln!(text, "F3: sector {place} of {source} can't be read")?;
-        }
+    if let Some(place) = unread_in(rt, folder, source, copying) {
+        writeln!(text, "F3: sector {place} of {source} can't be read")?;
     }
     push_waiting(&mut text, rt.alloc(), records)?;
-    push_way_on(&mut text, source, copying.target)?;
+    push_way_on(&mut text, source, target)?;
     Ok(text)
 }
 
