@@ -189,6 +189,9 @@ fn carry_out<I, O, E>(
     mut shelf: FileShelf<HostRuntime>,
     streams: &mut Streams<'_, I, O, E>,
 ) -> Result<(), Fault> {
+    if let Some(found) = obstacle_to_opening(rt, registry, false) {
+        return Err(Fault::from(found.fault));
+    }
     let mut store = open_store(rt, registry).map_err(StoreFault::from)?;
     settle_named(rt.alloc(), &mut store, &mut shelf, streams)?;
     if !store.is_autocommit() {
