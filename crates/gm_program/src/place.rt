@@ -44,7 +44,7 @@ fn settle_named<S: Alter, I, O, E>(
 }
 
 // What is left of work at a bench, which is closed.
-struct Worked<S: Alter + Drop> {
+struct ClosedBench<S: Alter + Drop> {
     report: Result<Report, Fault>,
     store: Connection<S>,
     // the images, if a command that was answered may be pending on them
@@ -60,7 +60,7 @@ fn without<S: Alter + Drop, I, O, E: Write>(
     key: &str,
     form: Form,
     streams: &mut Streams<'_, I, O, E>,
-) -> Result<Worked<S>, BenchFault>
+) -> Result<ClosedBench<S>, BenchFault>
     requires { store.in_transaction ≡ false }
     ensures { IfOk result (λ it. IfOk it.report (λ report. MayRefuse report.status)) }
 {
@@ -68,7 +68,7 @@ fn without<S: Alter + Drop, I, O, E: Write>(
         Ok(Without::Opened { bench, answer }) => {
             let report = recovered_without(alloc, key, answer, bench.redone(), form);
             let (store, _) = bench.close();
-            Ok(Worked {
+            Ok(ClosedBench {
                 report: report.map_err(Fault::from),
                 store,
                 shelf: None,
@@ -77,7 +77,7 @@ fn without<S: Alter + Drop, I, O, E: Write>(
         Ok(Without::Refused { why, store, .. }) => {
             explain_loss(alloc, streams, key, provider, why);
             let report = refused_without(alloc, key, why, form);
-            Ok(Worked {
+            Ok(ClosedBench {
                 report: report.map_err(Fault::from),
                 store,
                 shelf: None,
@@ -102,7 +102,7 @@ fn worked<S: Alter + Drop, I: BufRead, O: Write, E: Write>(
     shelf: FileShelf<HostRuntime>,
     work: &Work<'_>,
     streams: &mut Streams<'_, I, O, E>,
-) -> Result<Worked<S>, BenchFault>
+) -> Result<ClosedBench<S>, BenchFault>
     requires { store.in_transaction ≡ false }
     ensures { IfOk result (λ it. IfOk it.report (λ report. MayEnd work.now report.status)) }
 {
@@ -116,7 +116,7 @@ fn worked<S: Alter + Drop, I: BufRead, O: Write, E: Write>(
             } else {
                 None
             };
-            Ok(Worked {
+            Ok(ClosedBench {
                 report,
                 store,
                 shelf,
@@ -137,7 +137,7 @@ fn at_bench<S: Alter + Drop, I: BufRead, O: Write, E: Write>(
     mut shelf: FileShelf<HostRuntime>,
     work: &Work<'_>,
     streams: &mut Streams<'_, I, O, E>,
-) -> Result<Worked<S>, BenchFault>
+) -> Result<ClosedBench<S>, BenchFault>
     ensures { IfOk result (λ it. IfOk it.report (λ report. MayEnd work.now report.status)) }
 {
     settle_named(rt.alloc(), &mut store, &mut shelf, streams)?;
@@ -232,7 +232,7 @@ fn at_files<D: Disk + Drop, I: BufRead, O: Write, E: Write>(
 ) -> Result<Report, Fault>
     ensures { IfOk result (λ report. MayEnd work.now report.status) }
 {
-    let Worked {
+    let ClosedBench {
         report,
         store,
         shelf,
