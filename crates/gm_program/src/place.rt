@@ -182,28 +182,40 @@ fn heed_failure<I, O, E>(
     }
 }
 
-// Opens the bench of a registry, which carries out what is pending, and closes it.
+// Opens a bench, which carries out what is pending, and gives its store back. The images that
+// pending writes name are settled before.
+fn settled<S: Alter + Drop, I, O, E>(
+    alloc: Global,
+    mut store: Connection<S>,
+    mut shelf: FileShelf<HostRuntime>,
+    streams: &mut Streams<'_, I, O, E>,
+) -> Result<Connection<S>, BenchFault> {
+    settle_named(alloc, &mut store, &mut shelf, streams)?;
+    if !store.is_autocommit() {
+        return Err(BenchFault::Store);
+    }
+    match Bench::open(alloc, store, shelf) {
+        Ok(bench) => {
+            let (store, _) = bench.close();
+            Ok(store)
+        }
+        Err(e) => Err(e.fault),
+    }
+}
+
+// Opens the bench of a registry that is there, which carries out what is pending, and closes it.
 fn carry_out<I, O, E>(
     rt: &HostRuntime,
     registry: &str,
-    mut shelf: FileShelf<HostRuntime>,
+    shelf: FileShelf<HostRuntime>,
     streams: &mut Streams<'_, I, O, E>,
 ) -> Result<(), Fault> {
     if let Some(found) = obstacle_to_opening(rt, registry, false) {
         return Err(Fault::from(found.fault));
     }
-    let mut store = open_store(rt, registry).map_err(StoreFault::from)?;
-    settle_named(rt.alloc(), &mut store, &mut shelf, streams)?;
-    if !store.is_autocommit() {
-        return Err(Fault::Bench(BenchFault::Store));
-    }
-    match Bench::open(rt.alloc(), store, shelf) {
-        Ok(bench) => {
-            let (store, _) = bench.close();
-            Ok(store.close().map_err(StoreFault::from)?)
-        }
-        Err(e) => Err(Fault::Bench(e.fault)),
-    }
+    let store = open_store(rt, registry).map_err(StoreFault::from)?;
+    let store = settled(rt.alloc(), store, shelf, streams)?;
+    Ok(store.close().map_err(StoreFault::from)?)
 }
 
 // Opens a bench anew after a fault, with the shelf that the fault left, so that no command that was
