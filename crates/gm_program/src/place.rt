@@ -1,13 +1,13 @@
 //! Where work at a bench is done: a folder of images, which is held meanwhile, and a registry,
 //! which is opened and closed again.
 
-ghost use Rattle.std.specs.Prelude.{◌≡◌, false, IfOk};
+ghost use Rattle.std.specs.Prelude.{◌≡◌, false, Err, IfOk};
 ghost use Rattle.gm_process.specs.Statuses.{MayRefuse};
 ghost use Rattle.gm_program.specs.Ends.{MayEnd};
 
 use crate::bench_command::perform;
 use crate::recover::{recovered_without, refused_without};
-use gm_bench::{Bench, BenchFault, Without};
+use gm_bench::{Bench, BenchFault, OpenFault, Without};
 use gm_command_line::{Form, Work};
 use gm_faults::{Fault, explain_loss};
 use gm_looking::{complain_of_pending, way_on};
@@ -43,6 +43,33 @@ fn settle_named<S: Alter, I, O, E>(
     Ok(settled?)
 }
 
+// Lets the media go over which no bench is opened, and hands on why. That is done here alone, because
+// it is dear to prove.
+fn unopened<S: Alter + Drop, T>(
+    _store: Connection<S>,
+    _shelf: FileShelf<HostRuntime>,
+    fault: BenchFault,
+) -> Result<T, BenchFault>
+    ensures { result ≡ Err fault }
+{
+    Err(fault)
+}
+
+// Why a bench wasn't opened over media, which are let go.
+fn heed_unopened<S: Alter + Drop, I, O, E>(
+    left: OpenFault<S, FileShelf<HostRuntime>>,
+    streams: &mut Streams<'_, I, O, E>,
+) -> BenchFault {
+    streams.explaining.failure = left.shelf.last_failure();
+    left.fault
+}
+
+// Closes a bench, of which the store alone is kept.
+fn store_of<S: Alter + Drop>(bench: Bench<S, FileShelf<HostRuntime>>) -> Connection<S> {
+    let (store, _) = bench.close();
+    store
+}
+
 // What is left of work at a bench, which is closed.
 struct ClosedBench<S: Alter + Drop> {
     report: Result<Report, Fault>,
@@ -67,10 +94,9 @@ fn without<S: Alter + Drop, I, O, E: Write>(
     match Bench::open_without(alloc, store, shelf, provider, key) {
         Ok(Without::Opened { bench, answer }) => {
             let report = recovered_without(alloc, key, answer, bench.redone(), form);
-            let (store, _) = bench.close();
             Ok(ClosedBench {
                 report: report.map_err(Fault::from),
-                store,
+                store: store_of(bench),
                 shelf: None,
             })
         }
@@ -83,10 +109,7 @@ fn without<S: Alter + Drop, I, O, E: Write>(
                 shelf: None,
             })
         }
-        Err(e) => {
-            streams.explaining.failure = e.shelf.last_failure();
-            Err(e.fault)
-        }
+        Err(left) => Err(heed_unopened(left, streams)),
     }
 }
 
@@ -122,10 +145,7 @@ fn worked<S: Alter + Drop, I: BufRead, O: Write, E: Write>(
                 shelf,
             })
         }
-        Err(e) => {
-            streams.explaining.failure = e.shelf.last_failure();
-            Err(e.fault)
-        }
+        Err(left) => Err(heed_unopened(left, streams)),
     }
 }
 
@@ -140,9 +160,11 @@ fn at_bench<S: Alter + Drop, I: BufRead, O: Write, E: Write>(
 ) -> Result<ClosedBench<S>, BenchFault>
     ensures { IfOk result (λ it. IfOk it.report (λ report. MayEnd work.now report.status)) }
 {
-    settle_named(rt.alloc(), &mut store, &mut shelf, streams)?;
+    if let Err(fault) = settle_named(rt.alloc(), &mut store, &mut shelf, streams) {
+        return unopened(store, shelf, fault);
+    }
     if !store.is_autocommit() {
-        return Err(BenchFault::Store);
+        return unopened(store, shelf, BenchFault::Store);
     }
     match *work {
         Work::RecoverWithout {
@@ -190,16 +212,15 @@ fn settled<S: Alter + Drop, I, O, E>(
     mut shelf: FileShelf<HostRuntime>,
     streams: &mut Streams<'_, I, O, E>,
 ) -> Result<Connection<S>, BenchFault> {
-    settle_named(alloc, &mut store, &mut shelf, streams)?;
+    if let Err(fault) = settle_named(alloc, &mut store, &mut shelf, streams) {
+        return unopened(store, shelf, fault);
+    }
     if !store.is_autocommit() {
-        return Err(BenchFault::Store);
+        return unopened(store, shelf, BenchFault::Store);
     }
     match Bench::open(alloc, store, shelf) {
-        Ok(bench) => {
-            let (store, _) = bench.close();
-            Ok(store)
-        }
-        Err(e) => Err(e.fault),
+        Ok(bench) => Ok(store_of(bench)),
+        Err(left) => Err(heed_unopened(left, streams)),
     }
 }
 
