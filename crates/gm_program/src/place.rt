@@ -43,7 +43,7 @@ fn settle_named<S: Alter, I, O, E>(
     Ok(settled?)
 }
 
-// Lets the media go over which no bench is opened, and hands on why. That is done here alone, because
+// Lets the media go over which no bench is opened, and hands on why. It is done here alone, since
 // it is dear to prove.
 fn unopened<S: Alter + Drop, T>(
     _store: Connection<S>,
