@@ -141,7 +141,7 @@ asks_no_image("made", [
     ("k4 insert --priority 0 --did 3 gm0 c.img", "k4 repeated 5"),
 ])
 place.put_back("made")
-run(["batch"], b"k6 advance gm0 c.img\n", WITHIN=place.images + "/", FAIL="9")
+run(["do", "--unchecked", "k6", "advance", "gm0", "c.img"], WITHIN=place.images + "/", FAIL="9")
 place.keep("stopped")
 assert run(["pending"])[1] != "", "nothing is pending"
 LOOKS = (["pending"], TASTE, ["status", "--read-only"], ["list", "--read-only"], ["audit", "--read-only"], ["check", "--data", "--quiet"])

@@ -135,7 +135,7 @@ def try_command(command, lines, named):
     for first in range(1, total + 1):
         place.put_back("before")
         stopped = run(["batch"], line, STOPPED=place.images + "/", STOP=str(first))
-        check(f"'{command}', stopped at call {first}", stopped, (3, "p1 fault 3\n", "gmbench: F3 disk\n"))
+        check(f"'{command}', stopped at call {first}", stopped, (3, "p1 fault 3\n", place.disk_fault()))
         place.keep("stopped")
         lose_each(command, first, named)
     if total == 0:

@@ -8,6 +8,7 @@ was accepted, before anything of it is written. Then some images are gone. All t
 """
 
 import os
+import re
 import sys
 
 from bench_folder import Bench
@@ -198,7 +199,7 @@ def put_stopped(first, lines):
     before = images()
     key = f"k{len(lines)}"
     ended = run(["batch"], f"{key} {lines[-1]}\n", STOPPED=place.images + "/", STOP="1")
-    check("the last line is stopped", ended, (3, f"{key} fault 3\n", "gmbench: F3 disk\n"))
+    check("the last line is stopped", ended, (3, f"{key} fault 3\n", place.disk_fault()))
     check("nothing of it is written", images(), before)
     place.keep("stopped")
 
@@ -250,9 +251,13 @@ def try_refusal(row):
     place.put_back("stopped")
     take_away(gone)
     before = kept()
+    # Of each image that is named the file is opened, and synced as often as it is named.
+    pending = run(["pending"], shelf=False)[1]
+    named = [name for name in re.findall(r"[\w-]+\.img", pending) if name in images()]
+    settling = len(set(named)) + len(named)
     shown = "?" if number == "2" else key
     check(f"'{row.strip()}'", lose(f"{provider} {key}"), (1, f"{shown} refused {number}\n", ""))
-    check(f"'{row.strip()}' opens, reads and writes no image", place.count(), 0)
+    check(f"'{row.strip()}' only settles images", place.count(), settling)
     check(f"'{row.strip()}' writes nothing", kept() == before, True)
 
 

@@ -25,7 +25,8 @@ stop_at() {
     cp -R "$bench/images" "$work/as-they-were"
     printf '%s\n' "$1" >"$work/lines"
     within_limit batch <"$work/lines"
-    expect "it stops: $1" 3 "${1%% *} fault 3" 'gmbench: F3 disk'
+    pending=$("$gmbench" pending --registry "$registry")
+    expect "it stops: $1" 3 "${1%% *} fault 3" "$(lines "$pending\ngmbench: F3 disk")"
     rm -rf "$bench/images"
     mv "$work/as-they-were" "$bench/images"
 }

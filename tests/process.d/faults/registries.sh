@@ -329,7 +329,7 @@ done
 rm -rf "$bench/images"
 cp -R "$work/logged" "$bench/images"
 at_bench recover
-expect 'the log as it was' 0 'recovered 1' ''
+expect 'the log as it was' 0 'recovered 0' ''
 
 # What is no longer than an empty log is none, whatever is in it.
 for length in 41 42; do
@@ -383,7 +383,7 @@ expect_untouched 'away from its log' "there is no registry at $registry" "$opene
 rm -rf "$bench/images"
 cp -R "$work/emptied-kept" "$bench/images"
 at_bench recover
-expect 'both as they were' 0 'recovered 1' ''
+expect 'both as they were' 0 'recovered 0' ''
 
 # ---- files that are refused get no log
 

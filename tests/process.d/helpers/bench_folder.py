@@ -25,6 +25,10 @@ class Bench:
         complaints = done.stderr.decode().removeprefix(f"a new registry was made at {self.registry}\n")
         return done.returncode, done.stdout.decode(), complaints
 
+    def disk_fault(self):
+        """What a batch complains of if an image fails, and goes on failing: what is pending, and the fault."""
+        return self.run(["pending"], shelf=False)[1] + "gmbench: F3 disk\n"
+
     def count(self):
         """The number that a preloaded library wrote at the end of the last run."""
         with open(self.count_file, encoding="ascii") as file:

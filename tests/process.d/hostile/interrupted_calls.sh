@@ -21,11 +21,17 @@ if command -v strace >/dev/null && traced pwrite64 :when=1 && grep -q INJECTED "
         expect "999 times $call is interrupted in a row" 0 "$(lines 'k1 ok 1\nk2 ok 2')" ''
         fresh_bench "always-$call"
         traced $call ''
-        expect "$call is interrupted each time" 3 "$(lines 'k1 ok 1\nk2 fault 3')" 'gmbench: F3 disk'
+        case $call in
+            # it is found before the line is accepted, and the batch settles the label at its end
+            pread64) still_pending= ;;
+            *) still_pending='metadata of a.img
+metadata of b.img
+' ;;
+        esac
+        expect "$call is interrupted each time" 3 "$(lines 'k1 ok 1\nk2 fault 3')" "${still_pending}gmbench: F3 disk"
         at_bench recover
         case $call in
-            # it is found before the line is accepted, which was to settle the label
-            pread64) expect "a recovery behind $call" 0 'recovered 1' '' ;;
+            pread64) expect "a recovery behind $call" 0 'recovered 0' '' ;;
             *) expect "a recovery behind $call" 0 'recovered 2' '' ;;
         esac
         batch "$label$insert"

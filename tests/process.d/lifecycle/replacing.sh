@@ -80,7 +80,7 @@ expect 'with the key it goes on' 0 "$(lines 'r1 repeated 4\nr1.2 ok 5\nr1.3 ok 6
 filled_bench full-output
 timeout 20 "$gmbench" replace --quiet --registry "$registry" --shelf "$bench/images" gm0 b.img c.img >/dev/full \
     2>"$work/complaints"
-grep -qxF 'g000005 was done, as number 5' "$work/complaints" && pass 'a command whose answer is lost was done' ||
+grep -qxF 'g000004 was done, as number 4' "$work/complaints" && pass 'a command whose answer is lost was done' ||
     fail 'a command whose answer is lost was done' "$(cat "$work/complaints")"
 at_bench replace --quiet gm0 b.img c.img
 expect 'after a lost answer the same words go on' 0 "$(lines 'gm0 c.img ACTIVE\ng000005.2 ok 6')" ''
@@ -197,8 +197,8 @@ keep_bench
 at_bench replace --key r gm0 b.img c.img
 expect_foreseen 'a second key of another command' r remove "r.2: $taken"
 filled_bench taken-third
-rm "$bench/images/b.img"
 batch 'r.3 configure --autosync on gm0\n'
+rm "$bench/images/b.img"
 keep_bench
 at_bench replace --key r gm0 b.img c.img
 expect_foreseen 'a third key of another command' r insert "r.3: $taken"
