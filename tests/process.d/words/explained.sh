@@ -57,6 +57,7 @@ run "$(printf 'paint\033[2J')"
 expect_legible 'a word that clap does not take' 'paint?[2J'
 run status --explain --registry "$registry" --shelf "$(printf "$work/no\033\nfolder")"
 expect_legible 'a path' "$work/no??folder"
+at_bench recover
 at_bench do k1 destroy "$(printf 'gm\302\2330')"
 expect_legible 'a control character of two bytes' "'gm?0'"
 at_bench do k1 destroy "$(printf 'gm\nF3 disk')"
