@@ -19,7 +19,7 @@ from documents import SPAN, blank, lines_of, pages_of, text_of
 
 # How many words a page may have.
 WORDS = {
-    "README.md": 700,
+    "README.md": 720,
     "CHANGELOG.md": 650,
     "docs/ARCHITECTURE.md": 3050,
     "docs/DECISIONS.md": 5400,
