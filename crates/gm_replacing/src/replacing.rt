@@ -112,8 +112,8 @@ fn refuse<S: Alter, H: Shelf, I: BufRead, O: Write, E: Write>(
     }
 }
 
-// Ends it at a step that would be refused. A filling that is refused takes nothing away, and ends it
-// by itself, unless the old image is given up first.
+// Ends it at a step that would be refused. A filling that is refused takes nothing away, and ends
+// it by itself, unless the old image is given up first.
 fn refuse_at<S: Alter, H: Shelf, I: BufRead, O: Write, E: Write>(
     rt: &HostRuntime,
     replacing: &Replacing<'_>,

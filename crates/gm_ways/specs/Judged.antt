@@ -80,3 +80,6 @@ module _ (x : Seen) (e : Exchange) (did : ℕ) where
           × (step : Step) × (i < length steps) × Lead i n v × (step ≡ get_or steps i step)
           × (length told.found.items ≡ i + 1) × (v ≡ get_or told.found.items i v)
           × IsRefused step v r
+      -- then those before it are counted
+      pub counted : (r : Refusal) → told.refused ≡ Some r → (i : ℕ) × (n : ℕ) × (v : Records)
+          × Lead i n v × (length told.found.items ≡ i + 1) × (n < 2 ^ 64 → told.commands ≡ n)

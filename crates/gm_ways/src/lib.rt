@@ -2,8 +2,8 @@
 //! is done: decided before the first is handed in, on the records that those before it leave.
 //!
 //! `step.rt` says what the commands are, and `way.rt` in which order they are handed in
-//! (`specs/Ways.antt`). `judging.rt` decides them one after the other (`specs/Judged.antt`), by what
-//! `shown.rt` reads of the images. No bench is asked anything here.
+//! (`specs/Ways.antt`). `judging.rt` decides them one after the other (`specs/Judged.antt`), by
+//! what `shown.rt` reads of the images. No bench is asked anything here.
 #![tactic(auto)]
 
 mod fault;

@@ -45,6 +45,14 @@ returns-in-Err c =
             last_is x e did steps s found more i inv.leads.0 v grows inv.length_is,
             subst (IsRefused x e did step v) same no,
           ));
+      counted = λ r some. (
+        i,
+        inv.leads.0,
+        v,
+        inv.leads.1,
+        longer x e did steps s found more i inv.leads.0 v grows inv.length_is,
+        inv.leads.2,
+      );
     }
 
 pub loop-step-preserved : goal.loop-step-preserved

@@ -31,7 +31,8 @@ loop-name-preserved g c =
           subst (λ (o : Option Fact). MatchOption o (mid name ≡ None)
           (λ g. IsFact mid was g × (g.provider ≡ name))) w.in-Some.is
           (c.in_ok-fact_of.ensures.fact (inv.only.keeps.honest h)) in
-          (moved size mid seen was f inv.only.keeps.size (inv.only.reads h).quiet.seen it.0, it.1)) in
+          (moved size mid seen was f inv.only.keeps.size (inv.only.reads h).quiet.seen it.0,
+          it.1)) in
           record {
             only = only_then j _ _ _ inv.only c.fact_of.ensures.looks.only;
             facts = λ h g has.
