@@ -50,8 +50,8 @@ fn losses_of<I, O, E: Write>(
     }
 }
 
-/// What a command would take away for good, in sentences, by these mirrors and by the images as they
-/// are now.
+/// What a command would take away for good, in sentences, by these mirrors and by the images as
+/// they are now.
 pub fn losses_told<I, O, E: Write>(
     rt: &HostRuntime,
     state: &State,

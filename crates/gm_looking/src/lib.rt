@@ -5,8 +5,8 @@
 //! registry as it stands (`specs/Looks.antt` says how they end), with `pending.rt` for what is
 //! pending as JSON, and `comparing.rt` compares data.
 //! `checking.rt` looks at all of it at once, and `checked.rt` tells what was found
-//! (`specs/Checks.antt`). `flaws.rt` has the lines of data that differ. `blocked.rt` says what waits
-//! for an image that fails.
+//! (`specs/Checks.antt`). `flaws.rt` has the lines of data that differ. `blocked.rt` says what
+//! waits for an image that fails.
 #![tactic(auto)]
 
 mod blocked;

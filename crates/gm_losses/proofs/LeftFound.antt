@@ -475,7 +475,8 @@ module _ (size : Sizes) (seen : Image) where
               whole_is w.source q y.provider w in
               not_both (is_whole_beside sources y)
               (subst (λ (m : Metadata). is_whole m && list_any (λ (b : Member).
-              b.metadata.dflags.dirty && (b.metadata.genid == m.genid)) sources ≡ true) same whole) e
+              b.metadata.dflags.dirty && (b.metadata.genid == m.genid)) sources ≡ true)
+              same whole) e
 
           told_one : (x : Loss) → Has (left_of ps (Some g)) x → IsOne x
           told_one x h =

@@ -57,7 +57,8 @@ module _ (size : Sizes) (seen : Image) (ps : List (List ℕ)) (ys : List Member)
             let y = tells_active q e a in
             off (goes_first q e x.provider x.metadata)
             (subst (λ (m : Metadata). not (goes_first q m x.provider x.metadata) ≡ true) y.3
-            (subst (λ (p : List ℕ). not (goes_first p y.0.metadata x.provider x.metadata) ≡ true) y.2
+            (subst (λ (p : List ℕ). not (goes_first p y.0.metadata x.provider x.metadata) ≡ true)
+            y.2
             (all_has (λ (z : Member). not (goes_first z.provider z.metadata x.provider x.metadata))
             (active_of ys) from.1 y.0 y.1)));
       }

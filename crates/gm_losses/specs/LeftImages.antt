@@ -42,7 +42,7 @@ module _ (size : Sizes) (seen : Image) where
     pub of : IsOfMirror d.name d.mid provider other
     pub behind : d.genid < other.genid
 
-  -- an image that says this is torn: it is DIRTY, and another of its mirror, with its genid, is whole
+  -- an image that says this is torn: it is DIRTY, and another of its mirror and genid is whole
   pub record IsTorn (d : Metadata) : Type 0 where
     pub dirty : d.dflags.dirty ≡ true
     pub provider : List ℕ

@@ -6,9 +6,9 @@
 //! into a mirror (`specs/FreeImages.antt`); `label_losses.rt` and `insert_losses.rt` what such an
 //! image would lose, the latter by `scan.rt`, which looks for its first data. `intact.rt` has the
 //! images that are given up though nothing is amiss with them; `copies.rt` what becomes of a mirror
-//! that a component leaves, or that is dropped (`specs/Copies.antt`); `left_images.rt` the images of
-//! a mirror that are left if it is adopted (`specs/LeftImages.antt`); and `whole_images.rt` those
-//! that are whole, if it would be adopted from one that isn't (`specs/WholeImages.antt`).
+//! that a component leaves, or that is dropped (`specs/Copies.antt`); `left_images.rt` the images
+//! of a mirror that are left if it is adopted (`specs/LeftImages.antt`); and `whole_images.rt`
+//! those that are whole, if it would be adopted from one that isn't (`specs/WholeImages.antt`).
 #![tactic(auto)]
 
 mod by_command;

@@ -1,9 +1,9 @@
 //! What has the name of a registry's log: whether it is one.
 //!
 //! SQLite's crate takes any file of that name for a log, and writes over one that isn't. A log that
-//! a stop leaves passes here. It is made in 41 bytes. To empty a longer one, the crate writes a zero
-//! for its first byte, then its bytes 1 to 40, and then the first byte, and syncs in between; bytes
-//! 1 to 3 are the same before and after.
+//! a stop leaves passes here. It is made in 41 bytes. To empty a longer one, the crate writes a
+//! zero for its first byte, then its bytes 1 to 40, and then the first byte, and syncs in between;
+//! bytes 1 to 3 are the same before and after.
 
 ghost use Rattle.std.specs.Prelude.{◌≡◌};
 ghost use Rattle.gm_registry_files.specs.Obstacles.{is_gate, is_log_head, is_order, log_kind};

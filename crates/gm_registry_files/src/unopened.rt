@@ -50,7 +50,7 @@ fn read_whole<S: Alter>(alloc: Global, registry: &mut Registry<S>) -> Result<Who
     Ok(Whole { loaded, accepted })
 }
 
-// Reads all of a registry in a store. It's given back, since to drop a whole store is dear to prove.
+// Reads all of a registry in a store, which is given back: to drop a whole one is dear to prove.
 fn read_store<S: Alter>(
     alloc: Global,
     store: Connection<S>,

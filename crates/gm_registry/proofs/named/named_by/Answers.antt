@@ -21,8 +21,8 @@ one_more rows i row names more low is kept added before other x h named =
 pub loop-row-preserved : goal.loop-row-preserved
 loop-row-preserved c =
     one_more c.args.rows.now c.loop-row.row-index c.row-item.result c.loop-row.names.items _
-    c.loop-row-test.true c.row-item.is c.in_ok-add_named.ensures.kept c.in_ok-add_named.ensures.added
-    c.loop-row.invariant
+    c.loop-row-test.true c.row-item.is c.in_ok-add_named.ensures.kept
+    c.in_ok-add_named.ensures.added c.loop-row.invariant
 
 pub returns : goal.returns
 returns c =

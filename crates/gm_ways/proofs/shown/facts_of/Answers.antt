@@ -30,9 +30,10 @@ loop-name-preserved g c =
           let it : IsFact mid was f × (f.provider ≡ name) =
           subst (λ (o : Option Fact). MatchOption o (mid name ≡ None)
           (λ g. IsFact mid was g × (g.provider ≡ name))) w.in-Some.is
-          (c.in_ok-fact_of.ensures.fact (inv.only.keeps.honest h)) in
-          (moved size mid seen was f inv.only.keeps.size (inv.only.reads h).quiet.seen it.0,
-          it.1)) in
+          (c.in_ok-fact_of.ensures.fact (inv.only.keeps.honest h)) in (
+            moved size mid seen was f inv.only.keeps.size (inv.only.reads h).quiet.seen it.0,
+            it.1,
+          )) in
           record {
             only = only_then j _ _ _ inv.only c.fact_of.ensures.looks.only;
             facts = λ h g has.
