@@ -91,6 +91,18 @@ module _ (u : World) (t : Tables) (sound : Sound u) (holds : HoldRecords u t) (k
   each_refusal P two three four more NoRoom h = four h
   each_refusal P two three four more (ByRules r) h = more r h
 
+  -- what hasn't the form of a key isn't one of those that were accepted
+  pub no_key : is_key key ≡ false → Calls u call u (Refused NoKey)
+  no_key bad = (
+    refl,
+    λ a k. true≢false (sym (sound.answers.fit a k.kept).key ∙ (ap is_key k.key ∙ bad)),
+    record {
+      applies = bad;
+      least = each_refusal (λ k. 2 ≤ k) (λ f. omega arith) (λ b g s d. omega arith)
+          (λ m. omega arith) (λ r b. omega (arith, at_least_five r));
+    },
+  )
+
   module _ (key_ok : is_key key ≡ true) where
     -- the key was accepted before
     pub same_again : (a : Answered) → Has u.answered a → a.key ≡ key → CommandFits c

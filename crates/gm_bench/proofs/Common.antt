@@ -66,21 +66,24 @@ pub use Rattle.gm_registry.specs.Registry.{LeavesAlone, Reads, Writes}
 pub use Rattle.gm_bench.specs.Accepting.{LeavesStep, IsAnswered, IsDone, HasNothingElse, WaitsFor, left_by, OrStep}
 pub use Rattle.gm_bench.specs.AdoptScope.{adopted_from, compared_with}
 pub use Rattle.gm_bench.specs.Benches.{progress_of, registry_of, shelf_of, redone_of}
-pub use Rattle.gm_bench.specs.Calls.{HasNothingPending, LooksOn, TellsDisk, most_rows, GoesOn, ClosesOnFault, Keep, TellsOfRecords, TellsStore}
+pub use Rattle.gm_bench.specs.Calls.{HasNothingPending, LooksOn, OnlyLooks, OnlyLooksUp, TellsUnreadable, TellsDisk, most_rows, GoesOn, ClosesOnFault, Keep, TellsOfRecords, TellsStore}
 pub use Rattle.gm_bench.specs.Faults.{IsBeforeWrites, IsOfOpening, of_store, of_shelf, IsOfRegistry}
-pub use Rattle.gm_bench.specs.GivingUp.{IsUnwritten, OnlyLooksUp, StaysUnlost, AnswersLoss, AreUntouched, GivesUp, LacksImage, LeavesUndone}
+pub use Rattle.gm_bench.specs.FoundKeys.{IsExpected, TellsKey, TellsRoom}
+pub use Rattle.gm_bench.specs.GivingUp.{IsUnwritten, StaysUnlost, AnswersLoss, AreUntouched, GivesUp, LacksImage, LeavesUndone}
+pub use Rattle.gm_bench.specs.Judgements.{CanBeAccepted, IsJudgedToFit, IsJudgement}
 pub use Rattle.gm_bench.specs.KeptCommands.{TellsKept}
 pub use Rattle.gm_bench.specs.Leading.{AllLead, AreAmong, whole, Leads, KeepsClaims, EachNewClaims, ClaimsOf}
 pub use Rattle.gm_bench.specs.Losing.{remaining, writes_to, dropped, left_to_lay, pending_after, as_left, next_of, HasNext, redirected}
 pub use Rattle.gm_bench.specs.Opened.{HoldsKnown, MayBeCarriedOver}
 pub use Rattle.gm_bench.specs.Owed.{AcceptAnswers, AcceptLeaves, ApplyDoes, ApplyLeaves, LeavesRun, IsLeft, LookDoes, LookLeaves, RunAnswers, IsOpening, OpenLeaves, SettleDoes, SettleLeaves}
 pub use Rattle.gm_bench.specs.Phases.{answer_of, phase_carried, phase_of, progress_after, waiting_of, IsUndone, TakesCommands, TakesNext}
-pub use Rattle.gm_bench.specs.Planning.{IsPlanned, IsFitting, IsWith, IsWorkAtHand, IsDecided, IsPlanAtHand, IsPlanFitting}
+pub use Rattle.gm_bench.specs.Planning.{IsPlanned, IsFitting, IsWorkAtHand, IsDecided, IsPlanAtHand, IsPlanFitting}
 pub use Rattle.gm_bench.specs.Presence.{first_absent, AreAtHand, serves, is_present, absent_among, providers_in}
 pub use Rattle.gm_bench.specs.Recovering.{IsAt, LeavesOnly, Cover, IsShelfOf, IsCarriedOut, Recovers, IsFound}
 pub use Rattle.gm_bench.specs.Running.{IsRun}
 pub use Rattle.gm_bench.specs.Schedule.{Phase, Event, Accept_returned, Accept_stopped, Apply_returned, Apply_stopped, Settle_returned, Settle_stopped, Run_returned, Run_stopped, Look_returned, Look_stopped, Open_returned, Open_stopped, Now, none, skips, keeps, Moved, Without_returned, Without_stopped, Without_carrying, Entry, Handed_in, Without, IsButMoved, IsStepWithout, Reached, ArePending, LeavesCommit, IsMove, HasCount, IsLeftIn, IsStop, IsRunStop, IsDoneOver, IsOpenOver, after_answer, after_run, with_media, Happens, IsStart, Runs, AtRest, OnTheWay, Stopped, Headline, Within, IsStepTo, IsLastStep, IsNew, WithoutCarries, WithoutDoes, WithoutLeaves}
 pub use Rattle.gm_bench.specs.ShelfFacts.{AreEqual, IsFact, Tell, TellSizes, IsHonestToAdopt}
 pub use Rattle.gm_bench.specs.Standing.{IsHandedIn, Stands, LeavesNext}
+pub use Rattle.gm_bench.specs.Stepping.{TakesCommand}
 pub use Rattle.gm_bench.specs.Without.{Carries, CanBeCommitted, CanCommit, IsRedirected, Commits, DoesLoss, HasJudged, IsLost, LeavesLoss, LeavesOpened, loss_call, IsNewLoss, AreOfLoss, IsBadLoss, IsJudged, IsKeptLoss, loss_of, number_of_loss, StaysReadable, StayReadableBehind, DoesWithout, KeepsUndone, LacksFirst, LeavesWithout, AreOfWorld}
-pub use Rattle.gm_bench.specs.declared.{adopt_scope.Compared.Compared, answer.Accepted.Accepted, answer.Answer.Answer, answer.Answer.TheVariants.Done, answer.Answer.TheVariants.Repeated, answer.Work.Work, bench.Bench.Bench, fault.BenchFault.BenchFault, fault.BenchFault.TheVariants.Closed, fault.BenchFault.TheVariants.Disk, fault.BenchFault.TheVariants.Memory, fault.BenchFault.TheVariants.Store, fault.BenchFault.TheVariants.Unreadable, loss.Judged.Judged, loss.Judged.TheVariants.Refused, loss.Judged.TheVariants.Kept, loss.Judged.TheVariants.New, loss.Loss.Loss, loss.LossRefusal.LossRefusal, loss.LossRefusal.TheVariants.ByCall, loss.LossRefusal.TheVariants.OnlySource, loss.LossRefusal.TheVariants.OnShelf, media.Media.Media, open_without.Without.TheVariants.Opened, phase.Progress.Progress, phase.Progress.TheVariants.Ready, phase.Progress.TheVariants.Pending, phase.Progress.TheVariants.Applied, phase.Progress.TheVariants.Failed, phase.Waiting.Waiting, phase.Waiting.TheVariants.Nothing, plan.Planned.Planned, take_up_without.TakenUp.TakenUp, take_up_without.TakenUp.TheVariants.Carried}
+pub use Rattle.gm_bench.specs.declared.{adopt_scope.Compared.Compared, answer.Accepted.Accepted, answer.Answer.Answer, answer.Answer.TheVariants.Done, answer.Answer.TheVariants.Repeated, answer.Work.Work, bench.Bench.Bench, fault.BenchFault.BenchFault, fault.BenchFault.TheVariants.Closed, fault.BenchFault.TheVariants.Disk, fault.BenchFault.TheVariants.Memory, fault.BenchFault.TheVariants.Store, fault.BenchFault.TheVariants.Unreadable, found_key.FoundKey.FoundKey, judgement.Judgement.Judgement, loss.Judged.Judged, loss.Judged.TheVariants.Refused, loss.Judged.TheVariants.Kept, loss.Judged.TheVariants.New, loss.Loss.Loss, loss.LossRefusal.LossRefusal, loss.LossRefusal.TheVariants.ByCall, loss.LossRefusal.TheVariants.OnlySource, loss.LossRefusal.TheVariants.OnShelf, media.Media.Media, open_without.Without.TheVariants.Opened, phase.Progress.Progress, phase.Progress.TheVariants.Ready, phase.Progress.TheVariants.Pending, phase.Progress.TheVariants.Applied, phase.Progress.TheVariants.Failed, phase.Waiting.Waiting, phase.Waiting.TheVariants.Nothing, plan.Planned.Planned, take_up_without.TakenUp.TakenUp, take_up_without.TakenUp.TheVariants.Carried}

@@ -1,5 +1,5 @@
 -- What a call leaves that asks the rules, and writes nothing.
-use Rattle.gm_bench.proofs.Common.{◌≡◌, ◌∙◌, inl, inr, ℕ, ◌≤◌, ◌<◌, Bool, true, false, List, ap, subst, subst₂, sym, nat_le, arith, refl, Result, Ok, Err, IfOk, IfErr, nat_tests, Ghosts, Held, Database, Trees, Image, Sizes, IsLawful, IsQuiet, quiet_itself, quiet_moment, Command, Intent, IsAtHand, Has, World, CrashLeaves, CrashLeavesOnly, DiskKept, HasTables, IsRegistry, LeavesAlone, LeavesNothingNew, WasClean, Reads, state, survives_then, BenchFault, Media, TakenUp, OrStep, LeavesStep, IsOfRegistry, OnlyLooksUp, StaysUnlost, AllLead, IsCarriedOut, IsShelfOf, Recovers, IsSettling, saved, Tables}
+use Rattle.gm_bench.proofs.Common.{◌≡◌, ◌∙◌, inl, inr, ℕ, List, ap, subst, subst₂, sym, arith, refl, Result, Ok, Err, IfOk, IfErr, Ghosts, Held, Database, Trees, Image, Sizes, IsLawful, IsQuiet, quiet_itself, quiet_moment, Command, Intent, IsAtHand, Has, World, CrashLeaves, CrashLeavesOnly, DiskKept, HasTables, IsRegistry, LeavesAlone, LeavesNothingNew, WasClean, Reads, state, survives_then, BenchFault, Media, TakenUp, OrStep, LeavesStep, IsOfRegistry, OnlyLooksUp, StaysUnlost, AllLead, IsCarriedOut, IsShelfOf, Recovers, IsSettling, saved, Tables}
 use Rattle.sqlite.specs.Schema.{Schema}
 use Rattle.gm_shelf.specs.declared.shelf.Shelf.{Ghosts as ShelfGhosts}
 use Rattle.gm_bench.proofs.RegistryLeaves.{leads_in}
@@ -88,12 +88,6 @@ pub ok_then : {X E : Type 0} (P Q : X → Type 0) → ((x : X) → P x → Q x) 
     → IfOk r P → IfOk r Q
 ok_then P Q f (Ok x) p = f x p
 ok_then P Q f (Err e) p = tt
-
-pub many_of : (b : Bool) (n : ℕ) → b ≡ nat_le 100000 n → b ≡ true → 100000 ≤ n
-many_of b n e t = let h : nat_le 100000 n ≡ true = sym e ∙ t in grind (arith, nat_tests)
-
-pub room_of : (b : Bool) (n : ℕ) → b ≡ nat_le 100000 n → b ≡ false → n < 100000
-room_of b n e t = let h : nat_le 100000 n ≡ false = sym e ∙ t in grind (arith, nat_tests)
 
 -- two reads, one after the other
 pub nothing_then : {S : Type 0} (g : Ghosts S) (r mid s : Held S) → LeavesNothingNew g r mid

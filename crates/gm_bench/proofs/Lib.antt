@@ -17,6 +17,8 @@ pub mod FittingPlans
 pub mod Found
 pub mod GatheredFacts
 pub mod Induction
+pub mod JudgedByKey
+pub mod LookingOnly
 pub mod Looks
 pub mod LossCarried
 pub mod LossCommits

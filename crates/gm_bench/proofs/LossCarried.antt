@@ -1,11 +1,24 @@
 -- A loss that is committed is ready to be carried out; and one that wasn't leaves what was.
-use Rattle.gm_bench.proofs.Common.{◌≡◌, inl, inr, ℕ, List, [], None, refl, sym, ap, subst, Ghosts, Trees, Held, Image, IsLawful, Call, Intent, Records, World, Tables, CrashLeaves, CrashLeavesOnly, DiskKept, HasTables, LeavesNothingNew, Loss, AllLead, first_absent, Cover, IsAt, IsFound, LeavesOnly, LeavesCommit, Carries, Commits, DoesLoss, HasJudged, IsLost, LeavesLoss, LeavesOpened, loss_call}
+use Rattle.gm_bench.proofs.Common.{◌≡◌, inl, inr, ℕ, List, [], None, refl, sym, ap, subst, Ghosts, Trees, Held, Image, IsLawful, Call, Intent, Records, World, Tables, CrashLeaves, CrashLeavesOnly, DiskKept, HasTables, LeavesNothingNew, Loss, AllLead, first_absent, Cover, IsAt, IsFound, LeavesOnly, LeavesCommit, Carries, Commits, DoesLoss, HasJudged, IsJudged, IsLost, LeavesLoss, LeavesOpened, loss_call}
 use Rattle.gm_shelf.specs.declared.shelf.Shelf.{Ghosts as ShelfGhosts}
+use Rattle.gm_bench.specs.declared.loss.Judged.TheVariants.{New}
+use Rattle.gm_bench.specs.declared.take_up_without.Looked.{Looked}
+use Rattle.gm_bench.specs.Without.{IsLooked}
 use Rattle.gm_bench.proofs.Found.{covered, ready}
 use Rattle.gm_bench.proofs.RegistryLeaves.{leads_in, read_only}
 use Rattle.gm_bench.proofs.TakenUp.{absent_back, leaves_back, moved}
 
 module _ {S H : Type 0} (g : Ghosts S) (j : ShelfGhosts H) where
+  -- what was looked for was judged to be a loss
+  pub judged_new : (r : Held S) (h : H) (key p : List ℕ) (looked : Looked) (loss : Loss)
+      (away : Image) (ts : List Intent) (bytes : List (List ℕ)) (u w : World)
+      → looked.judged ≡ New loss → IsLooked g j r h key p looked away ts bytes u w
+      → HasJudged g j r h key p loss away ts bytes u w
+  judged_new r h key p looked loss away ts bytes u w is was = record {
+    found = was.found;
+    judged = subst (IsJudged w ts bytes key p) is was.judged;
+  }
+
   -- nothing was written
   pub not_committed : (r s : Held S) (h : H) (away : Image) (ts : List Intent)
       (bytes : List (List ℕ)) (u w : World)

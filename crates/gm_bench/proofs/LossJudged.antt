@@ -1,6 +1,9 @@
 -- What is found of the loss of a component, under a key that is free.
-use Rattle.gm_bench.proofs.Common.{◌≡◌, ◌∙◌, ℕ, ◌<◌, ◌≤◌, IsTrue, true, List, [], ◌∷◌, ◌++◌, length, Option, Some, None, refl, sym, ap, subst, arith, true≢false, IsSome, IsSomeAnd, MatchOption, option_map, list_all, and_parts, Command, Lost, CommandFits, is_key, words_of, Has, Sizes, Intent, Component, component_of, Records, members, is_label, same_command, World, Answered, Sound, present, NoKey, KeyTaken, NoRoom, ByRules, Refusal, NotMember, IsLeast, number_of, seen_of, after, metas, Changed, Makes, changed_by, Bad, Judged, Kept, Refused, New, LossRefusal, ByCall, OnlySource, OnShelf, next_of, remaining, AreOfLoss, IsBadLoss, IsJudged, IsKeptLoss, IsRedirected, loss_of, number_of_loss}
-use Rattle.gm_bench.proofs.CallAnswers.{at_least_five}
+use Rattle.gm_bench.proofs.Common.{◌≡◌, ◌∙◌, ℕ, ◌<◌, ◌≤◌, IsTrue, true, false, List, [], ◌∷◌, ◌++◌, length, Option, Some, None, refl, sym, ap, subst, subst₂, arith, true≢false, IsSome, IsSomeAnd, MatchOption, option_map, list_all, and_parts, Command, Lost, CommandFits, is_key, words_of, Has, Sizes, Intent, Component, component_of, Records, members, is_label, same_command, World, Answered, Sound, present, NoKey, KeyTaken, NoRoom, ByRules, Refusal, NotMember, IsLeast, number_of, seen_of, after, metas, Changed, Makes, changed_by, Bad, Judged, Kept, Refused, New, LossRefusal, ByCall, OnlySource, OnShelf, next_of, remaining, AreOfLoss, IsBadLoss, IsJudged, IsKeptLoss, IsRedirected, loss_of, number_of_loss, Reply, Tables, HoldRecords, TellsKey}
+use Rattle.gm_refusals.specs.declared.refusals.CallRefusal.{CallRefusal}
+use Rattle.gm_bench.specs.declared.found_key.FoundKey.TheVariants as found
+use Rattle.gm_bench.proofs.CallAnswers.{at_least_five, kept_answer}
+use Rattle.gm_bench.proofs.JudgedByKey.{is_full}
 use Rattle.gm_bench.proofs.LossRules.{listed_low}
 
 none_is : (o : Option (List ℕ)) → o ≡ None → IsSome o → ⊥
@@ -9,6 +12,23 @@ none_is (Some x) e some = absurd (let no : ⊥ = cc in no)
 
 module _ (w : World) (sound : Sound w) (ts : List Intent) (bytes : List (List ℕ))
     (key p : List ℕ) where
+  two_at_least : (q : LossRefusal) → 2 ≤ number_of_loss q
+  two_at_least (ByCall NoKey) = omega arith
+  two_at_least (ByCall KeyTaken) = omega arith
+  two_at_least (ByCall NoRoom) = omega arith
+  two_at_least (ByCall (ByRules r)) = omega (arith, at_least_five r)
+  two_at_least OnlySource = omega arith
+  two_at_least OnShelf = omega arith
+
+  -- what hasn't the form of a key isn't one of those that were accepted
+  pub no_key : is_key key ≡ false → IsJudged w ts bytes key p (Refused (ByCall NoKey))
+  no_key bad = record {
+    fresh = λ a kept.
+        true≢false (sym (sound.answers.fit a kept.kept).key ∙ (ap is_key kept.key_is ∙ bad));
+    applies = bad;
+    least = λ q b. two_at_least q;
+  }
+
   module _ (key_ok : is_key key ≡ true) where
     -- what may be told of a key that has the form of one
     with_key : (n : ℕ) → ((q : LossRefusal) → 3 ≤ number_of_loss q → n ≤ number_of_loss q)
@@ -107,6 +127,33 @@ module _ (w : World) (sound : Sound w) (ts : List Intent) (bytes : List (List �
               (λ c. Bad w c NotMember)) (sym no_loss) refl;
           least = else_twelve;
         }
+
+-- what a loss comes to that is refused by its key
+module _ (w : World) (t : Tables) (sound : Sound w) (holds : HoldRecords w t) (ts : List Intent)
+    (bytes : List (List ℕ)) (key p : List ℕ) where
+  abbrev any : Command
+  any = Lost [] []
+
+  pub refused : (why : CallRefusal) → TellsKey key (AreOfLoss p) (found.Refused why) t
+      → IsJudged w ts bytes key p (Refused (ByCall why))
+  refused NoKey bad = no_key w sound ts bytes key p bad
+  refused KeyTaken told =
+      let it = told.3 in
+      let a = kept_answer w t sound holds key any told.1 it.0 told.2 it.1 in
+      key_taken w sound ts bytes key p told.0 a.0 a.1 a.2
+      (λ are. it.2 (subst (AreOfLoss p) a.4 are))
+  refused NoRoom told =
+      let full = is_full w t sound holds key any told in
+      no_room w sound ts bytes key p told.0 full.0 full.1
+  refused (ByRules r) told = absurd told
+
+  pub kept : (n : ℕ) (reply : Reply) → TellsKey key (AreOfLoss p) (found.Kept n reply) t
+      → IsJudged w ts bytes key p (Kept n reply)
+  kept n reply told =
+      let it = told.1 in
+      let a = kept_answer w t sound holds key any n it.0 reply it.1 in
+      subst₂ (λ (m : ℕ) r. IsJudged w ts bytes key p (Kept m r)) a.3 a.5
+      (kept_before w sound ts bytes key p told.0 a.0 a.1 a.2 (subst (AreOfLoss p) (sym a.4) it.2))
 
 module _ (w : World) (ts : List Intent) (bytes : List (List ℕ)) (key p : List ℕ) (k : Component)
     (on : component_of w.state p ≡ Some k) (key_ok : is_key key ≡ true)

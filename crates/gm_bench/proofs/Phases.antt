@@ -1,5 +1,5 @@
 -- Which phase a bench is in that may be asked something, and isn't in the phase for it.
-use Rattle.gm_bench.proofs.Common.{◌≡◌, ◌∙◌, inl, inr, ℕ, refl, sym, ap, subst, Result, Ok, Err, IsErrOf, OnErr, OnOk, Reply, Work, Progress, Ready, Pending, Applied, Failed, Accepted, Answer, Done, Repeated, Sizes, IsWith, IsWorkAtHand, AreAtHand, IsUndone, TakesCommands, TakesNext, answer_of, phase_carried, phase_of, progress_after}
+use Rattle.gm_bench.proofs.Common.{◌≡◌, ◌∙◌, inl, inr, ℕ, refl, sym, ap, subst, Result, Ok, Err, IsErrOf, OnErr, OnOk, Reply, Work, Progress, Ready, Pending, Applied, Failed, Accepted, Answer, Done, Repeated, Sizes, IsWorkAtHand, AreAtHand, IsUndone, TakesCommands, TakesNext, answer_of, phase_carried, phase_of, progress_after}
 use Rattle.gm_bench.specs.declared.answer.Accepted.TheVariants as accepted
 use Rattle.gm_bench.specs.declared.answer.Answer.TheVariants.{Refused}
 use Rattle.gm_bench.specs.declared.phase.Phase.TheVariants as phase
@@ -86,16 +86,3 @@ has_pending Ready is = cc
 has_pending (Pending work) is = (work, refl)
 has_pending (Applied work) is = cc
 has_pending Failed is = cc
-
--- a command that is done with some work isn't undone, and that is what is to be carried out of it
-pub with_done : (work : Work) (it : Accepted) → IsWith work it → IsUndone (answer_of it) → ⊥
-with_done work (accepted.Done n reply mine) is undone = let no : ⊥ = cc in no
-with_done work (accepted.Repeated n reply) is undone = is
-with_done work (accepted.Refused why) is undone = is
-
-pub with_hand : (size : Sizes) (work : Work) (it : Accepted) → IsWith work it
-    → AreAtHand size work.intents.items → IsWorkAtHand size it
-with_hand size work (accepted.Done n reply mine) is handy =
-    subst (λ (w : Work). AreAtHand size w.intents.items) (sym is) handy
-with_hand size work (accepted.Repeated n reply) is handy = absurd is
-with_hand size work (accepted.Refused why) is handy = absurd is

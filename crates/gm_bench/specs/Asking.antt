@@ -27,7 +27,7 @@ use Rattle.gm_bench.specs.declared.phase.Waiting.{Waiting}
 use Rattle.gm_bench.specs.declared.plan.Gathered.{Gathered}
 use Rattle.gm_bench.specs.declared.plan.Planned.{Planned}
 use Rattle.gm_bench.specs.Accepting.{left_by}
-use Rattle.gm_bench.specs.Calls.{Asks, TellsStore}
+use Rattle.gm_bench.specs.Calls.{OnlyLooks, OnlyLooksUp, TellsStore}
 use Rattle.gm_bench.specs.Faults.{IsOfCall}
 use Rattle.gm_bench.specs.Planning.{IsDecided, IsKnown, IsPartKnown, IsPlanAtHand, IsPlanFitting, IsToDecide}
 use Rattle.gm_bench.specs.Recovering.{IsCarriedOut}
@@ -52,6 +52,18 @@ module _ {S H T : Type 0} (s : StoreGhosts S) (old new : Media S H)
     pub reads : Reads s old.registry new.registry
     -- the shelf stays
     pub shelf : new.shelf ≡ old.shelf
+
+  -- something is looked up in the registry, and this is told of the tables; they can be read if
+  -- they are such
+  pub record LooksUp (Tells : T → Tables → Type 0) (AreRead : Tables → Type 0) : Type 0 where
+    pub told : DiskKept s new.registry → IfOk result (λ it. (t : Tables)
+        → HasTables s old.registry t → Tells it t × HasTables s new.registry t)
+    -- F2 comes only if the store failed
+    pub store : TellsStore s old.registry new.registry result
+    -- F6 comes only of other tables
+    pub readable : DiskKept s new.registry → IsErrOf result Unreadable → (t : Tables)
+        → HasTables s old.registry t → AreRead t → ⊥
+    pub looks : OnlyLooksUp s old new result
 
 -- the part of the records is read that a command asks for, and that has each of these mids
 pub record ReadsPart {S H : Type 0} (g : StoreGhosts S) (old new : Media S H)
@@ -86,13 +98,11 @@ pub record Gathers {S H : Type 0} (g : StoreGhosts S) (h : ShelfGhosts H) (old n
       → HasTables g old.registry t → AreRecordsOf t s
       → IsToDecide h old.shelf c r × HasTables g new.registry t
       × (IsHonestToAdopt h old.shelf c → IsPartKnown s c r))
-  -- F2 comes only if the store failed
-  pub store : TellsStore g old.registry new.registry result
   -- F6 comes only if the rows say no state
   pub readable : DiskKept g new.registry → IsErrOf result Unreadable → (t : Tables) (s : Records)
       → HasTables g old.registry t → AreRecordsOf t s → ⊥
-  -- it only reads both media
-  pub asks : Asks g h old new result
+  -- it only looks at both media
+  pub looks : OnlyLooks g h old new result
 
 -- The rules decide on a command, by a part of the records, how many mirrors there are, and facts.
 pub record DecidesPart (part : Records) (count : ℕ) (facts : List Fact) (c : Command)
@@ -134,11 +144,9 @@ pub record AsksRules {S H : Type 0} (g : StoreGhosts S) (h : ShelfGhosts H) (old
       → HasTables g old.registry t → AreRecordsOf t s → CommandFits c
       → IsHonestToAdopt h old.shelf c → (waiting : Waiting)
       → IsPlanFitting c (left_by waiting t) r)
-  -- F2 comes only if the store failed
-  pub store : TellsStore g old.registry new.registry result
   -- F6 comes only if the rows say no state
   pub readable : DiskKept g new.registry → IsErrOf result Unreadable → (t : Tables) (s : Records)
       → HasTables g old.registry t → AreRecordsOf t s → CommandFits c
       → IsHonestToAdopt h old.shelf c → ⊥
-  -- it only reads both media
-  pub asks : Asks g h old new result
+  -- it only looks at both media
+  pub looks : OnlyLooks g h old new result

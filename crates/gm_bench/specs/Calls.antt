@@ -9,7 +9,6 @@ use Rattle.gm_shelf.specs.Keeping.{Keeps, ReadsOnly}
 use Rattle.gm_state.specs.Rows.{Tables}
 use Rattle.gm_state.specs.Records.{Records}
 use Rattle.gm_commands.specs.declared.command.Command.{Command}
-use Rattle.gm_commands.specs.Commands.{CommandFits, is_key, words_of}
 use Rattle.gm_rows.specs.ReadableTables.{AreRecordsOf}
 use Rattle.gm_registry.specs.Fitting.{HasRoom}
 use Rattle.gm_registry.specs.Replies.{AreWrittenUnder, count_of}
@@ -97,13 +96,24 @@ pub record Looks {H T : Type 0} (h : ShelfGhosts H) (old new : H)
   pub not_store : IsErrOf result Store → ⊥
   pub fault : IfErr result IsOfMedia
 
+-- A call that looks up what the registry holds leaves both media, and fails as the registry does.
+pub record OnlyLooksUp {S H T : Type 0} (s : StoreGhosts S) (old new : Media S H)
+    (result : Result T BenchFault) : Type 0 where
+  pub shelf : new.shelf ≡ old.shelf
+  pub clean : WasClean s old.registry new.registry
+  pub reads : DiskKept s new.registry → Reads s old.registry new.registry
+  pub fault : IfErr result IsOfRegistry
+
 module _ {S H T : Type 0} (s : StoreGhosts S) (h : ShelfGhosts H) (old new : Media S H)
     (result : Result T BenchFault) where
-  -- a call that only reads both media
-  pub record Asks : Type 0 where
-    pub store : Reads s old.registry new.registry
+  -- A call that only looks at both media. Two in turn are one, if the first succeeds and leaves the
+  -- tables that it found.
+  pub record OnlyLooks : Type 0 where
+    pub clean : WasClean s old.registry new.registry
+    pub reads : DiskKept s new.registry → Reads s old.registry new.registry
     pub only : ReadsOnly h old.shelf new.shelf
     pub disk : TellsDisk h old.shelf new.shelf result
+    pub store : TellsStore s old.registry new.registry result
     pub fault : IfErr result IsOfCall
 
   -- A call that hands in a command: it reads the shelf, it only read the registry too if an answer
@@ -172,10 +182,6 @@ module _ {S H T : Type 0} (s : StoreGhosts S) (h : ShelfGhosts H) (old new : Med
       → HasTables s old.registry t → AreRecordsOf t r → IsOpen s new.registry
       → HasTables s new.registry t)
 
--- a command that fits, by its words, under a key
-abbrev pub IsCall : List ℕ → List ℕ → Command → Type 0
-IsCall key words c = (words ≡ words_of c) × (is_key key ≡ true) × CommandFits c
-
 -- A command that is handed in, by the registry's rows and the shelf's sizes alone: F6 only if the
 -- rows can't be read, F2 only if the store failed wherever the tables are such; what is then to be
 -- carried out is at hand; if it fails the tables stay, and else the registry goes on.
@@ -186,17 +192,6 @@ pub record TellsByRows {S H : Type 0} (s : StoreGhosts S) (h : ShelfGhosts H) (o
   pub at_hand : TellsAtHand s h old new result (IsWorkAtHand (h.size old.shelf))
   pub refused : RefusesCall s h old new result
   pub store : TellsStoreWhere s h old new result AreSuch c
-  pub goes_on : StaysRegistry s h old new result
-
--- The same of the steps of that call, which are given the command's words: some of it is said only
--- of a command that fits, or that is a call.
-pub record TellsOfCall {S H : Type 0} (s : StoreGhosts S) (h : ShelfGhosts H) (old new : Media S H)
-    (result : Result Accepted BenchFault) (key words : List ℕ) (c : Command)
-    (AreSuch : Tables → Type 0) : Type 0 where
-  pub readable : CommandFits c → TellsUnreadable s h old new result key c
-  pub at_hand : CommandFits c → TellsAtHand s h old new result (IsWorkAtHand (h.size old.shelf))
-  pub refused : RefusesCall s h old new result
-  pub store : IsCall key words c → TellsStoreWhere s h old new result AreSuch c
   pub goes_on : StaysRegistry s h old new result
 
 -- The shelf is kept; and if the disk kept what was written to the registry until now, it did so

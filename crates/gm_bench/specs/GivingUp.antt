@@ -33,7 +33,7 @@ use Rattle.gm_bench.specs.declared.take_up_without.TakenUp.{TakenUp}
 use Rattle.gm_bench.specs.declared.take_up_without.TakenUp.TheVariants.{Carried, NotLost}
 use Rattle.gm_bench.specs.Benches.{progress_of, redone_of, registry_of, shelf_of}
 use Rattle.gm_bench.specs.Calls.{Keep, TellsDisk, most_rows}
-use Rattle.gm_bench.specs.Faults.{IsBeforeWrites, IsOfRegistry}
+use Rattle.gm_bench.specs.Faults.{IsBeforeWrites}
 use Rattle.gm_bench.specs.Opened.{MayBeCarriedOver}
 use Rattle.gm_bench.specs.Owed.{IsLeft, IsOpening, OpenLeaves}
 use Rattle.gm_bench.specs.Presence.{first_absent}
@@ -119,14 +119,6 @@ pub record TakesLoss (db : Trees) : Type 0 where
   pub are : AreTablesOf tables records intents bytes
   pub few : length intents + 17 < 2 ^ 32
   pub room : HasRoom most_rows db
-
--- A call that looks up what the registry holds leaves both media, and fails as the registry does.
-pub record OnlyLooksUp {S H T : Type 0} (s : Ghosts S) (old new : Media S H)
-    (result : Result T BenchFault) : Type 0 where
-  pub shelf : new.shelf ≡ old.shelf
-  pub clean : WasClean s old.registry new.registry
-  pub reads : DiskKept s new.registry → Reads s old.registry new.registry
-  pub fault : IfErr result IsOfRegistry
 
 -- What is told of a loss that is carried out: F5 exactly if an image isn't there, and then nothing
 -- is written; F6 only of more commands than may be accepted, before an image is written; F3 only if

@@ -28,9 +28,9 @@ use Rattle.gm_bench.specs.declared.loss.Loss.{Loss}
 use Rattle.gm_bench.specs.declared.media.Media.{Media}
 use Rattle.gm_bench.specs.declared.take_up_without.Looked.{Looked}
 use Rattle.gm_bench.specs.declared.take_up_without.TakenUp.{TakenUp}
-use Rattle.gm_bench.specs.Calls.{GoesOn, Keep, TellsStore, WritesAlone, most_rows}
+use Rattle.gm_bench.specs.Calls.{GoesOn, Keep, OnlyLooksUp, TellsStore, WritesAlone, most_rows}
 use Rattle.gm_bench.specs.Faults.{IsOfRegistry}
-use Rattle.gm_bench.specs.GivingUp.{OnlyLooksUp, StaysUnlost, TellsOfLoss, TellsWithout}
+use Rattle.gm_bench.specs.GivingUp.{StaysUnlost, TellsOfLoss, TellsWithout}
 use Rattle.gm_bench.specs.Planning.{IsFitting}
 use Rattle.gm_bench.specs.Recovering.{IsFound}
 use Rattle.gm_bench.specs.Without.{AreOfWorld, CanBeCommitted, CanCommit, Commits, DoesLoss, DoesWithout, HasJudged, IsJudged, IsLooked, IsLost, KeepsUndone, LacksFirst, LeavesLoss, LeavesWithout, StayReadableBehind, StaysReadable, loss_call}
@@ -74,37 +74,30 @@ pub record JudgesComponent (s : Records) (size : Sizes) (ts : List Intent) (byte
   -- but no fault of the store comes
   pub not_store : IsErrOf result Store → ⊥
 
+-- the loss of a provider is judged, under a key that is free, of all records and what is pending
+pub record JudgesMember (s : Records) (size : Sizes) (ts : List Intent) (bytes : List (List ℕ))
+    (p : List ℕ) (result : Result Judged BenchFault) : Type 0 where
+  -- of the world with these records and sizes, with room for a command
+  pub judged : IfOk result (λ j. (w : World) (key : List ℕ) → AreOfWorld s size w
+      → is_key key ≡ true → ((a : Answered) → Has w.answered a → a.key ≡ key → ⊥)
+      → length w.answered < 100000 → IsJudged w ts bytes key p j)
+  -- F6 doesn't come
+  pub readable : IsErrOf result Unreadable → ⊥
+  -- what is pending then can be read again
+  pub again : IfOk result (StaysReadable s ts bytes)
+  -- the loss can be committed
+  pub fits : IfOk result (λ j. (key : List ℕ) (t : Tables) → AreRecordsOf t s → is_key key ≡ true
+      → IsFree t key → count_of t < 100000 → CanBeCommitted key ts t j)
+  -- its faults are those of a registry
+  pub fault : IfErr result IsOfRegistry
+  -- but no fault of the store comes
+  pub not_store : IsErrOf result Store → ⊥
+
 module _ {S H : Type 0} (g : StoreGhosts S) (h : ShelfGhosts H) (old new : Media S H) where
   module _ (s : Records) (ts : List Intent) (bytes : List (List ℕ)) (p : List ℕ)
       (result : Result Judged BenchFault) where
-    -- what is pending after the loss can be read again, and the tables stay
-    abbrev pub StaysJudged : Type 0
-    StaysJudged = DiskKept g new.registry → IfOk result (λ j. (t : Tables)
-        → HasTables g old.registry t → HasTables g new.registry t × StaysReadable s ts bytes j)
-
-    -- the loss of a provider is judged, under any key that is free
-    pub record JudgesFree : Type 0 where
-      -- of the world with these records and tables
-      pub judged : DiskKept g new.registry → IfOk result (λ j. (w : World) (key : List ℕ)
-          (t : Tables) → AreOfWorld s (h.size old.shelf) w → HoldRecords w t
-          → HasTables g old.registry t → is_key key ≡ true → IsFree t key
-          → IsJudged w ts bytes key p j × HasTables g new.registry t)
-      -- F6 comes only of more commands than may be accepted
-      pub readable : DiskKept g new.registry → IsErrOf result Unreadable → (t : Tables)
-          → HasTables g old.registry t → count_of t ≤ 100000 → ⊥
-      pub again : StaysJudged
-      -- the loss can be committed
-      pub fits : DiskKept g new.registry → IfOk result (λ j. (key : List ℕ) (t : Tables)
-          → HasTables g old.registry t → AreRecordsOf t s → is_key key ≡ true → IsFree t key
-          → CanBeCommitted key ts t j)
-      -- F2 comes only if the store failed
-      pub store : TellsStore g old.registry new.registry result
-      -- it only reads the registry
-      pub reads : Reads g old.registry new.registry
-      pub looks : OnlyLooksUp g old new result
-
     -- the loss of a provider is judged under a key
-    pub record Judges (key : List ℕ) : Type 0 where
+    pub record JudgesLoss (key : List ℕ) : Type 0 where
       -- of the world with these records and tables
       pub judged : DiskKept g new.registry → IfOk result (λ j. (w : World) (t : Tables)
           → AreOfWorld s (h.size old.shelf) w → HoldRecords w t → HasTables g old.registry t
@@ -113,7 +106,9 @@ module _ {S H : Type 0} (g : StoreGhosts S) (h : ShelfGhosts H) (old new : Media
       -- program doesn't write
       pub readable : DiskKept g new.registry → IsErrOf result Unreadable → (t : Tables)
           → HasTables g old.registry t → count_of t ≤ 100000 → AreWrittenUnder key t → ⊥
-      pub again : StaysJudged
+      -- what is pending after the loss can be read again, and the tables stay
+      pub again : DiskKept g new.registry → IfOk result (λ j. (t : Tables)
+          → HasTables g old.registry t → HasTables g new.registry t × StaysReadable s ts bytes j)
       -- the loss can be committed
       pub fits : DiskKept g new.registry → IfOk result (λ j. (t : Tables)
           → HasTables g old.registry t → AreRecordsOf t s → CanBeCommitted key ts t j)

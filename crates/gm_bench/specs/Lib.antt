@@ -5,8 +5,10 @@ pub mod Benches
 pub mod Calls
 pub mod CarryingOut
 pub mod Faults
+pub mod FoundKeys
 pub mod GivingUp
 pub mod HandedIn
+pub mod Judgements
 pub mod Judging
 pub mod KeptCommands
 pub mod Leading

@@ -82,11 +82,6 @@ abbrev pub IsPlanFitting : Command → Tables → Result Planned Refusal → Typ
 IsPlanFitting c t (Ok planned) = IsFitting planned.change (words_of c) t
 IsPlanFitting c t (Err r) = Unit {0}
 
--- a command is done, with this work still to be carried out
-abbrev pub IsWith : Work → Accepted → Type 0
-IsWith work (Done n reply mine) = mine ≡ work
-IsWith work _ = ⊥
-
 -- what is to be carried out of an accepted command is at hand
 abbrev pub IsWorkAtHand : Sizes → Accepted → Type 0
 IsWorkAtHand size (Done n reply work) = AreAtHand size work.intents.items

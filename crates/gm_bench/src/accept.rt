@@ -1,21 +1,20 @@
-//! Commands that are handed in.
+//! Commands that are handed in: each is judged, and then committed.
 
 ghost use Rattle.std.specs.Prelude.{◌≡◌};
 ghost use Rattle.gm_registry.specs.Accepting.{Accepts as WritesAccepted};
 ghost use Rattle.gm_registry.specs.Changes.{with_accepted};
 ghost use Rattle.gm_registry.specs.Registry.{Writes};
 ghost use Rattle.gm_bench.specs.Accepting.{left_by};
-ghost use Rattle.gm_bench.specs.Stepping.{AreFree, AreSettled, CommitsPlan, IsAnyCall, IsLeftToRules, IsNewCall, TakeOneMore, TakesAny, TakesCommand};
+ghost use Rattle.gm_bench.specs.Stepping.{CommitsJudgement, TakesCommand};
 
 use crate::answer::Accepted;
 use crate::fault::BenchFault;
+use crate::judgement::Judgement;
 use crate::media::Media;
 use crate::phase::Waiting;
-use crate::plan::Planned;
 use gm_apply::Watch;
 use gm_changes::Change;
-use gm_commands::{Command, is_key, words_of};
-use gm_refusals::CallRefusal;
+use gm_commands::Command;
 use gm_rows::StoreFault;
 use gm_shelf::Shelf;
 use sqlite::Alter;
@@ -46,87 +45,28 @@ impl<S: Alter, H: Shelf> Media<S, H> {
         }
     }
 
-    // Writes what a command makes.
+    // Writes what is planned of a command, if that is what it comes to. Nothing else in the call
+    // writes.
     fn commit(
         &mut self,
         waiting: Waiting,
-        planned: Planned,
+        judgement: Judgement,
         key: &str,
-        words: &str,
     ) -> Result<Accepted, BenchFault>
-        ensures { CommitsPlan S.Store H.Shelf self.old self.new waiting result planned
-            key.now words.now }
+        ensures { CommitsJudgement S.Store H.Shelf self.old self.new waiting result judgement
+            key.now }
     {
-        match self.write(waiting, &planned.change, key, words) {
+        let (words, planned) = match judgement {
+            Judgement::Repeated(number, reply) => return Ok(Accepted::Repeated(number, reply)),
+            Judgement::Refused(why) => return Ok(Accepted::Refused(why)),
+            Judgement::New { words, planned } => (words, planned),
+        };
+        match self.write(waiting, &planned.change, key, &words) {
             Ok(number) => Ok(Accepted::Done {
                 number,
                 reply: planned.change.reply(),
                 work: planned.work,
             }),
-            Err(fault) => Err(BenchFault::of_store(fault)),
-        }
-    }
-
-    // Asks the rules, and writes what they make.
-    fn choose<W: Watch>(
-        &mut self,
-        alloc: Global,
-        waiting: Waiting,
-        key: &str,
-        words: &str,
-        command: &Command,
-        watch: &mut W,
-    ) -> Result<Accepted, BenchFault>
-        ensures { TakesCommand S.Store H.Shelf self.old self.new waiting result key.now words.now
-            command.now IsLeftToRules TakeOneMore }
-    {
-        match self.ask(alloc, command, watch)? {
-            Ok(planned) => self.commit(waiting, planned, key, words),
-            Err(refusal) => Ok(Accepted::Refused(CallRefusal::ByRules(refusal))),
-        }
-    }
-
-    // Decides a command whose key is free.
-    fn decide<W: Watch>(
-        &mut self,
-        alloc: Global,
-        waiting: Waiting,
-        key: &str,
-        words: &str,
-        command: &Command,
-        watch: &mut W,
-    ) -> Result<Accepted, BenchFault>
-        ensures { TakesCommand S.Store H.Shelf self.old self.new waiting result key.now words.now
-            command.now IsNewCall AreFree }
-    {
-        if self.is_full()? {
-            return Ok(Accepted::Refused(CallRefusal::NoRoom));
-        }
-        self.choose(alloc, waiting, key, words, command, watch)
-    }
-
-    // Answers a command whose key has the form of one.
-    fn answer<W: Watch>(
-        &mut self,
-        alloc: Global,
-        waiting: Waiting,
-        key: &str,
-        words: &str,
-        command: &Command,
-        watch: &mut W,
-    ) -> Result<Accepted, BenchFault>
-        ensures { TakesCommand S.Store H.Shelf self.old self.new waiting result key.now words.now
-            command.now IsAnyCall AreSettled }
-    {
-        match self.registry.reply_of(key) {
-            Ok(None) => self.decide(alloc, waiting, key, words, command, watch),
-            Ok(Some((number, kept, reply))) => {
-                if kept.as_str() == words {
-                    Ok(Accepted::Repeated(number, reply))
-                } else {
-                    Ok(Accepted::Refused(CallRefusal::KeyTaken))
-                }
-            }
             Err(fault) => Err(BenchFault::of_store(fault)),
         }
     }
@@ -142,14 +82,10 @@ impl<S: Alter, H: Shelf> Media<S, H> {
         command: &Command,
         watch: &mut W,
     ) -> Result<Accepted, BenchFault>
-        ensures { TakesAny S.Store H.Shelf self.old self.new waiting result key.now command.now }
+        ensures { TakesCommand S.Store H.Shelf self.old self.new waiting result
+            key.now command.now }
     {
-        if !is_key(key) {
-            return Ok(Accepted::Refused(CallRefusal::NoKey));
-        }
-        match words_of(alloc, command) {
-            Ok(words) => self.answer(alloc, waiting, key, &words, command, watch),
-            Err(_) => Err(BenchFault::Memory),
-        }
+        let judgement = self.judge(alloc, key, command, watch)?;
+        self.commit(waiting, judgement, key)
     }
 }

@@ -8,10 +8,12 @@
 //! (`specs/Benches.antt` names what is in a bench), and `specs/Schedule.antt`, what a whole run is;
 //! then `bench` and `calls`, whose calls are those of `media` in turn. `hand_in` hands in one
 //! command after another, each of which settles the one before it (`specs/Standing.antt`).
-//! `specs/HandedIn.antt` says what a call owes that hands in a command, and `specs/Stepping.antt`,
-//! `specs/Asking.antt` and `specs/CarryingOut.antt` what the parts of such a call do. `laws` says
-//! what holds of every run. `views` has the calls that only look; what they tell of a state and a
-//! shelf is gm_looks's.
+//! `specs/HandedIn.antt` says what a call owes that hands in a command. Such a call judges the
+//! command first, and only reads for that (`judgement`, `found_key`, `plan`:
+//! `specs/Judgements.antt`, `specs/FoundKeys.antt`, `specs/Asking.antt`). It commits what can be
+//! accepted (`accept`: `specs/Stepping.antt`), and carries that out (`specs/CarryingOut.antt`).
+//! `laws` says what holds of every run. `views` has the calls that only look; what they tell of a
+//! state and a shelf is gm_looks's.
 //!
 //! `open_without` opens a bench of which an image is gone for good: `specs/Losing.antt` says what
 //! is pending after that, `specs/Without.antt` why it is refused, and `specs/GivingUp.antt` what
@@ -26,7 +28,9 @@ mod bench;
 mod calls;
 mod facts;
 mod fault;
+mod found_key;
 mod hand_in;
+mod judgement;
 mod laws;
 mod lose;
 mod loss;

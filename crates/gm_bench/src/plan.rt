@@ -1,6 +1,6 @@
 //! What the rules answer to a command.
 
-ghost use Rattle.std.specs.Prelude.{◌≡◌, ℕ, List, IfOk, IfErr, IsErrOf, nat_le};
+ghost use Rattle.std.specs.Prelude.{◌≡◌, ℕ, List, IfOk, IfErr, IsErrOf};
 ghost use Rattle.gm_state.specs.Records.{Records, IsState};
 ghost use Rattle.gm_changes.specs.Decides.{changed_by};
 ghost use Rattle.gm_refusals.specs.PartOf.{IsPartOf};
@@ -19,7 +19,7 @@ use crate::media::Media;
 use crate::sectors::copied;
 use gm_apply::Watch;
 use gm_changes::{Change, changed_by, decide_part};
-use gm_commands::{Command, MAX_COMMANDS};
+use gm_commands::Command;
 use gm_metadata::Label;
 use gm_refusals::{Facts, Refusal, adopt_source, found_mids, needed};
 use gm_registry::Part;
@@ -104,14 +104,6 @@ impl<S: Alter, H: Shelf> Media<S, H> {
             Ok(count) => Ok(count),
             Err(fault) => Err(BenchFault::of_store(fault)),
         }
-    }
-
-    /// Whether as many commands were accepted as there may be. It writes nothing.
-    pub(crate) fn is_full(&mut self) -> Result<bool, BenchFault>
-        ensures { Counts S.Store self.old self.new result (λ full n. full ≡ nat_le 100000 n) }
-    {
-        let count = self.accepted()?;
-        Ok(u64::from(MAX_COMMANDS) <= count)
     }
 
     /// The part of the records that the command asks for, and that has each of these mids, and how

@@ -42,7 +42,7 @@ impl<S: Alter, H: Shelf> Media<S, H> {
         ensures { LooksForLoss S.Store H.Shelf self.old self.new provider key.now result }
     {
         let loaded = self.load(alloc)?;
-        let judged = self.judge(
+        let judged = self.judge_loss(
             alloc,
             &loaded.state,
             &loaded.intents,

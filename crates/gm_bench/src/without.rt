@@ -8,14 +8,15 @@ ghost use Rattle.gm_state.specs.Records.{IsState};
 ghost use Rattle.gm_changes.specs.Decides.{changed_by};
 ghost use Rattle.gm_bench.specs.Faults.{IsOfMedia, IsOfRegistry};
 ghost use Rattle.gm_bench.specs.Without.{IsRedirected};
-ghost use Rattle.gm_bench.specs.Judging.{Judges, JudgesComponent, JudgesFree, RulesOnLoss};
+ghost use Rattle.gm_bench.specs.Judging.{JudgesComponent, JudgesLoss, JudgesMember, RulesOnLoss};
 
 use crate::fault::BenchFault;
-use crate::loss::{Judged, LossRefusal, are_of_loss, loss_with, next_source};
+use crate::found_key::{Expected, FoundKey};
+use crate::loss::{Judged, LossRefusal, loss_with, next_source};
 use crate::media::Media;
 use crate::sizes::sizes_of;
 use gm_changes::{Change, changed_by, decide};
-use gm_commands::{Command, Providers, is_key, words_of};
+use gm_commands::{Command, Providers, words_of};
 use gm_metadata::Label;
 use gm_refusals::{CallRefusal, Refusal, needed};
 use gm_shelf::Shelf;
@@ -123,20 +124,17 @@ impl<S: Alter, H: Shelf> Media<S, H> {
     }
 
     // What is found of the loss, under a key that is free.
-    fn judge_free(
-        &mut self,
+    fn judge_member(
+        &self,
         alloc: Global,
         state: &State,
         intents: &[Intent],
         bytes: &[[u8; 512]],
         provider: Label,
     ) -> Result<Judged, BenchFault>
-        ensures { JudgesFree S.Store H.Shelf self.old self.new state.now intents.now bytes.now
+        ensures { JudgesMember state.now (H.size self.now.shelf) intents.now bytes.now
             provider result }
     {
-        if self.is_full()? {
-            return Ok(Judged::refused(CallRefusal::NoRoom));
-        }
         match state.component(provider) {
             None => Ok(Judged::refused(CallRefusal::ByRules(Refusal::NotMember))),
             Some(component) => self.judge_component(alloc, state, intents, bytes, &component),
@@ -144,7 +142,7 @@ impl<S: Alter, H: Shelf> Media<S, H> {
     }
 
     /// What is found of the loss of a provider under a key. It reads the registry alone.
-    pub(crate) fn judge(
+    pub(crate) fn judge_loss(
         &mut self,
         alloc: Global,
         state: &State,
@@ -153,22 +151,13 @@ impl<S: Alter, H: Shelf> Media<S, H> {
         provider: Label,
         key: &str,
     ) -> Result<Judged, BenchFault>
-        ensures { Judges S.Store H.Shelf self.old self.new state.now intents.now bytes.now
+        ensures { JudgesLoss S.Store H.Shelf self.old self.new state.now intents.now bytes.now
             provider result key.now }
     {
-        if !is_key(key) {
-            return Ok(Judged::refused(CallRefusal::NoKey));
-        }
-        match self.registry.reply_of(key) {
-            Ok(None) => self.judge_free(alloc, state, intents, bytes, provider),
-            Ok(Some((number, words, reply))) => {
-                if are_of_loss(words.as_str(), provider) {
-                    Ok(Judged::Kept(number, reply))
-                } else {
-                    Ok(Judged::refused(CallRefusal::KeyTaken))
-                }
-            }
-            Err(fault) => Err(BenchFault::of_store(fault)),
+        match self.look_up(key, &Expected::LossOf(provider))? {
+            FoundKey::Kept(number, reply) => Ok(Judged::Kept(number, reply)),
+            FoundKey::Refused(why) => Ok(Judged::refused(why)),
+            FoundKey::Free => self.judge_member(alloc, state, intents, bytes, provider),
         }
     }
 }

@@ -10,11 +10,10 @@ returns-in_err-known g c =
       decides = search rules;
       at_hand = search rules;
       fits = search rules;
-      store = search rules;
       readable = λ clean is t s has records fits honest.
           c.in_err-known.ensures.readable clean (ap Err (fault_is c.from_residual.result _ _
           c.from_residual.ensures.1 is)) t s has records;
-      asks = search rules;
+      looks = search rules;
     }
 
 pub returns : goal.returns
@@ -39,10 +38,9 @@ returns g c =
           fitting (left_by waiting t) s (left_records waiting t s records) of.part of.mirrors fits
           (known.0.itself honest)))
           c.decide_on.result c.decide_on.ensures.fits;
-      store = search rules;
       readable = λ clean is t s has records fits honest.
           let known = c.in_ok-known.ensures.serves clean t s has records in
           c.decide_on.ensures.readable is fits known.0.state known.0.few known.0.most
           (known.0.itself honest);
-      asks = search rules;
+      looks = search rules;
     }

@@ -11,14 +11,13 @@ returns-in_err-part g c =
     record {
       known = search rules;
       serves = search rules;
-      store = search rules;
       readable = λ clean is t s has records.
           let has1 : HasTables g.S.Store c.look_at.new.self.registry t =
           subst (λ (k : Held g.row.S.Denot). HasTables g.S.Store k t)
           (sym c.look_at.ensures.registry) has in
           c.in_err-part.ensures.readable clean (ap Err (fault_is c.from_residual-in_err-part.result
           _ _ c.from_residual-in_err-part.ensures.1 is)) t s has1 records;
-      asks = search rules;
+      looks = search rules;
     }
 
 pub returns : goal.returns
@@ -135,7 +134,6 @@ returns g c =
               mirrors = said.0.mirrors;
             },
           );
-      store = search rules;
       readable = search rules;
-      asks = search rules;
+      looks = search rules;
     }

@@ -1,121 +1,103 @@
-use Rattle.gm_bench.proofs.Common.{rules, ◌∙◌, [], ℕ, List, refl, sym, subst, subst₂, arith, string_bytes, true≢false, MatchOption, Command, Lost, words_of, DiskKept, IsFree, IsKept, Judged, Kept, AreOfLoss, CanBeCommitted, IsJudged, StaysReadable}
-use Rattle.gm_bench.proofs.CallAnswers.{kept_answer}
-use Rattle.gm_bench.proofs.DecidesOnly.{ok_then, reads_then}
-use Rattle.gm_bench.proofs.LossJudged.{key_taken, kept_before}
-use Rattle.gm_bench.proofs.StoreFails.{failed_later}
+use Rattle.gm_bench.proofs.Common.{rules, ◌≡◌, ◌∙◌, Ok, Err, ℕ, List, sym, ap, subst, subst₂, arith, string_bytes, Tables, DiskKept, HasTables, IsHonestToAdopt, CanBeAccepted, IsJudgedToFit, TellsKey}
+use Rattle.gm_bench.specs.Judgements.{IsLeftToRules}
+use Rattle.gm_bench.proofs.CarriedOut.{seen_leads}
+use Rattle.gm_bench.proofs.Causes.{fault_is}
+use Rattle.gm_bench.proofs.DecidesOnly.{ok_then, quiet_same, still}
+use Rattle.gm_bench.proofs.JudgedByKey.{refused, repeated}
+use Rattle.gm_bench.proofs.LookingOnly.{looks_in_turn}
 use Rattle.gm_bench.proofs.media.Media.judge.Goals as goal
 
-abbrev any : Command
-any = Lost [] []
-
-pub returns-in-Ok-None : goal.returns-in-Ok-None
-returns-in-Ok-None g c =
-    let asked : DiskKept g.S.Store c.judge_free.new.self.registry
-    → DiskKept g.S.Store c.reply_of.new.self =
-    λ clean. omega (arith, clean, c.judge_free.ensures.looks.clean) in
+pub returns-in_err-number : goal.returns-in_err-number
+returns-in_err-number g c =
     record {
-      judged = λ clean.
-          ok_then _ _ (λ j judged w t of holds has. (
-          let f = c.in-Ok-None.ensures.found (asked clean) t has in
-          let free : IsFree t c.args.key.now =
-          subst (λ o. MatchOption o (IsFree t c.args.key.now)
-          (λ it. IsKept t c.args.key.now it.0 (string_bytes it.1) it.2)) c.in-Ok-None.field-0-is f.0
-          in
-          judged w c.args.key.now t of holds f.1.tables (sym c.is_key.ensures ∙
-          c.if-not-is_key.false) free))
-          c.judge_free.result (c.judge_free.ensures.judged clean);
-      readable = search rules;
-      again = λ clean.
-          ok_then _ _ (λ j again t has. again t (c.in-Ok-None.ensures.found (asked clean) t
-          has).1.tables) c.judge_free.result (c.judge_free.ensures.again clean);
-      fits = λ clean.
-          ok_then _ _ (λ j fits t has are. (
-          let f = c.in-Ok-None.ensures.found (asked clean) t has in
-          let free : IsFree t c.args.key.now =
-          subst (λ o. MatchOption o (IsFree t c.args.key.now)
-          (λ it. IsKept t c.args.key.now it.0 (string_bytes it.1) it.2)) c.in-Ok-None.field-0-is f.0
-          in
-          fits c.args.key.now t f.1.tables are (sym c.is_key.ensures ∙ c.if-not-is_key.false) free))
-          c.judge_free.result (c.judge_free.ensures.fits clean);
-      store = λ clean is t has.
-          let then = (c.in-Ok-None.ensures.found (asked clean) t has).1.tables in
-          failed_later g.S.Store c.args.self.now.registry c.reply_of.new.self t
-          c.reply_of.ensures.reads has then c.judge_free.new.self.registry
-          (c.judge_free.ensures.store clean is t then);
-      looks = record {
-        shelf = search rules;
-        clean = let one = c.reply_of.ensures.reads.clean in
-            let two = c.judge_free.ensures.looks.clean in omega (arith, one, two);
-        reads = λ clean.
-            reads_then g.S.Store c.args.self.now.registry c.reply_of.new.self
-            c.judge_free.new.self.registry
-            (λ t has. (c.in-Ok-None.ensures.found (asked clean) t has).1.tables)
-            c.reply_of.ensures.reads (c.judge_free.ensures.looks.reads clean);
-        fault = search rules;
-      };
-    }
-
-pub returns-then-are_of_loss : goal.returns-then-are_of_loss
-returns-then-are_of_loss g c =
-    record {
-      judged = λ clean w t of holds has.
-          let f = c.in-Ok-Some.ensures.found clean t has in
-          let row : IsKept t c.args.key.now c.in-Ok-Some.number (string_bytes c.in-Ok-Some.words)
-          c.in-Ok-Some.reply =
-          subst (λ o. MatchOption o (IsFree t c.args.key.now)
-          (λ it. IsKept t c.args.key.now it.0 (string_bytes it.1) it.2)) c.in-Ok-Some.field-0-is f.0
-          in
-          let a = kept_answer w t of.sound holds c.args.key.now any c.in-Ok-Some.number
-          (string_bytes c.in-Ok-Some.words) c.in-Ok-Some.reply row in
-          let are : AreOfLoss c.args.provider (words_of a.0.command) =
-          subst (λ (l : List ℕ). AreOfLoss c.args.provider l) (c.as_str.ensures.value ∙ sym a.4)
-          (c.if-are_of_loss.ensures.0 refl) in (
-            subst₂ (λ (n : ℕ) r. IsJudged w c.args.intents.now c.args.bytes.now c.args.key.now
-                c.args.provider
-                (Kept n r)) a.3 a.5
-                (kept_before w of.sound c.args.intents.now c.args.bytes.now c.args.key.now
-                c.args.provider (sym c.is_key.ensures ∙ c.if-not-is_key.false) a.0 a.1 a.2 are),
-            f.1.tables,
-          );
-      readable = search rules;
-      again = λ clean t has. ((c.in-Ok-Some.ensures.found clean t has).1.tables, tt);
-      fits = search rules;
-      store = search rules;
+      answers = search rules;
+      plans = search rules;
+      readable = λ clean is t r has records any read honest.
+          c.in_err-number.ensures.readable clean (ap Err (fault_is c.from_residual.result _ _
+          c.from_residual.ensures.1 is)) t has read;
       looks = search rules;
     }
 
-pub returns-in-Ok-Some : goal.returns-in-Ok-Some
-returns-in-Ok-Some g c =
+pub returns-in-Kept : goal.returns-in-Kept
+returns-in-Kept g c =
     record {
-      judged = λ clean w t of holds has.
-          let f = c.in-Ok-Some.ensures.found clean t has in
-          let row : IsKept t c.args.key.now c.in-Ok-Some.number (string_bytes c.in-Ok-Some.words)
-          c.in-Ok-Some.reply =
-          subst (λ o. MatchOption o (IsFree t c.args.key.now)
-          (λ it. IsKept t c.args.key.now it.0 (string_bytes it.1) it.2)) c.in-Ok-Some.field-0-is f.0
-          in
-          let a = kept_answer w t of.sound holds c.args.key.now any c.in-Ok-Some.number
-          (string_bytes c.in-Ok-Some.words) c.in-Ok-Some.reply row in
-          let other : AreOfLoss c.args.provider (words_of a.0.command) → ⊥ =
-          λ are. true≢false (sym (c.if-are_of_loss.ensures.1
-          (subst (λ (l : List ℕ). AreOfLoss c.args.provider l) (a.4 ∙ sym c.as_str.ensures.value)
-          are))) in (
-            subst (λ (j : Judged). IsJudged w c.args.intents.now c.args.bytes.now c.args.key.now
-                c.args.provider j)
-                (sym c.refused-else-are_of_loss.ensures)
-                (key_taken w of.sound c.args.intents.now c.args.bytes.now c.args.key.now
-                c.args.provider (sym c.is_key.ensures ∙ c.if-not-is_key.false) a.0 a.1 a.2 other),
-            f.1.tables,
+      answers = λ h clean away ts bytes v u at any.
+          let l = seen_leads g.S.Store g.H.Shelf c.args.self.now.registry c.args.self.now.shelf
+          away ts bytes v u at (g.met.H.Shelf.lawful c.args.self.now.shelf h) in
+          let told = c.in_ok-number.ensures.told clean at.tables at.has in (
+            repeated u at.tables l.sound l.records c.args.key.now c.args.command.now
+                c.deref.result.now (c.deref.ensures ∙ c.in-Ok.ensures.words) c.in-Ok.ensures.fits
+                c.in-Kept.number c.in-Kept.reply
+                (subst (λ f. TellsKey c.args.key.now (λ w. w ≡ c.deref.result.now) f at.tables)
+                c.in-Kept.is told.0),
+            told.1,
           );
+      plans = λ clean t r has records any.
+          (tt, λ honest. tt, (c.in_ok-number.ensures.told clean t has).1);
       readable = search rules;
-      again = λ clean t has. (
-        (c.in-Ok-Some.ensures.found clean t has).1.tables,
-        subst (λ (j : Judged). StaysReadable c.args.state.now c.args.intents.now c.args.bytes.now j)
-            (sym c.refused-else-are_of_loss.ensures) tt,
-      );
-      fits = λ clean t has are.
-          subst (λ (j : Judged). CanBeCommitted c.args.key.now c.args.intents.now t j)
-          (sym c.refused-else-are_of_loss.ensures) tt;
-      store = search rules;
       looks = search rules;
+    }
+
+pub returns-in-Refused : goal.returns-in-Refused
+returns-in-Refused g c =
+    record {
+      answers = λ h clean away ts bytes v u at any.
+          let l = seen_leads g.S.Store g.H.Shelf c.args.self.now.registry c.args.self.now.shelf
+          away ts bytes v u at (g.met.H.Shelf.lawful c.args.self.now.shelf h) in
+          let told = c.in_ok-number.ensures.told clean at.tables at.has in (
+            refused u at.tables l.sound l.records c.args.key.now c.args.command.now
+                c.deref.result.now (c.deref.ensures ∙ c.in-Ok.ensures.words) c.in-Refused.why
+                (subst (λ f. TellsKey c.args.key.now (λ w. w ≡ c.deref.result.now) f at.tables)
+                c.in-Refused.is told.0),
+            told.1,
+          );
+      plans = λ clean t r has records any.
+          (tt, λ honest. tt, (c.in_ok-number.ensures.told clean t has).1);
+      readable = search rules;
+      looks = search rules;
+    }
+
+pub returns-in-Free : goal.returns-in-Free
+returns-in-Free g c =
+    let old = c.args.self.now in
+    let mid = c.look_up.new.self in
+    let key = c.args.key.now in
+    let command = c.args.command.now in
+    let by_rules = c.judge_by_rules.ensures key in
+    let shelf = c.look_up.ensures.looks.shelf in
+    let asked : DiskKept g.S.Store c.judge_by_rules.new.self.registry
+    → DiskKept g.S.Store mid.registry =
+    λ clean. omega (arith, clean, by_rules.looks.clean) in
+    let left : (t : Tables) → TellsKey key (λ w. w ≡ c.deref.result.now) c.in_ok-number.field-0 t
+    → IsLeftToRules key (string_bytes c.in-Ok.words) command t =
+    λ t told. record {
+      told = subst₂ (λ (w : List ℕ) f. TellsKey key (λ x. x ≡ w) f t) c.deref.ensures c.in-Free.is
+          told;
+      fits = c.in-Ok.ensures.fits;
+      words_are = c.in-Ok.ensures.words;
+    } in
+    record {
+      answers = λ h clean.
+          let j = g.H.Shelf in
+          ok_then _ _ (λ jd answers away ts bytes v u at any. (
+          let told = c.in_ok-number.ensures.told (asked clean) at.tables at.has in
+          answers away ts bytes v u (still g.S.Store j old.registry old.shelf mid.shelf away ts
+          bytes v u at (g.met.H.Shelf.lawful old.shelf h) (quiet_same j old.shelf mid.shelf shelf)
+          (ap j.size shelf) mid.registry told.1) (left at.tables told.0)))
+          c.judge_by_rules.result (by_rules.answers (subst j.honest (sym shelf) h) clean);
+      plans = λ clean.
+          ok_then _ _ (λ jd plans t r has records any. (
+          let told = c.in_ok-number.ensures.told (asked clean) t has in
+          subst (λ (k : g.row.H.Denot). CanBeAccepted (g.H.Shelf.size k) key t jd
+          × (IsHonestToAdopt g.H.Shelf k command → IsJudgedToFit t jd)
+          × HasTables g.S.Store c.judge_by_rules.new.self.registry t) shelf
+          (plans t r told.1 records (left t told.0)))) c.judge_by_rules.result
+          (by_rules.plans clean);
+      readable = λ clean is t r has records any read honest.
+          let told = c.in_ok-number.ensures.told (asked clean) t has in
+          by_rules.readable clean is t r told.1 records (left t told.0) read
+          (subst (λ (k : g.row.H.Denot). IsHonestToAdopt g.H.Shelf k command) (sym shelf) honest);
+      looks = looks_in_turn g.S.Store g.H.Shelf old mid c.judge_by_rules.new.self
+          (Ok c.in_ok-number.field-0) c.judge_by_rules.result (search rules)
+          (λ early t has. (c.in_ok-number.ensures.told early t has).1) by_rules.looks;
     }

@@ -29,7 +29,7 @@ returns g c =
           let j = g.H.Shelf in
           let k = c.args.self.now.shelf in
           let clean1 : DiskKept g.S.Store c.load.new.self.registry =
-          omega (arith, clean, c.judge.ensures.looks.clean) in
+          omega (arith, clean, c.judge_loss.ensures.looks.clean) in
           let said = c.in_ok-loaded.ensures.says h clean1 away ts bytes u w at in
           let l = lead g.S.Store j c.args.self.now.registry k away ts bytes u w at
           (g.met.H.Shelf.lawful k h) in
@@ -43,8 +43,8 @@ returns g c =
           let are = c.deref.ensures.value ∙ said.1 in
           let laid = c.deref-2.ensures.value ∙ said.2 in (
             record {
-              found = moved g.S.Store j c.args.self.now.registry c.judge.new.self.registry k
-                  c.judge.new.self.shelf away ts bytes u w at (c.judge.ensures.looks.shelf
+              found = moved g.S.Store j c.args.self.now.registry c.judge_loss.new.self.registry k
+                  c.judge_loss.new.self.shelf away ts bytes u w at (c.judge_loss.ensures.looks.shelf
                   ∙ c.load.ensures.loads.shelf) ts
                   refl bytes refl judged.1;
               state = said.0;
@@ -58,7 +58,7 @@ returns g c =
       unreadable = search rules;
       loaded = λ clean t has.
           let clean1 : DiskKept g.S.Store c.load.new.self.registry =
-          omega (arith, clean, c.judge.ensures.looks.clean) in
+          omega (arith, clean, c.judge_loss.ensures.looks.clean) in
           let loaded = c.in_ok-loaded.ensures.loaded clean1 t has in
           let again = c.in_ok-judged.ensures.again clean t loaded.1 in (
             loaded.0,
@@ -69,7 +69,7 @@ returns g c =
           );
       fits = λ clean t has.
           let clean1 : DiskKept g.S.Store c.load.new.self.registry =
-          omega (arith, clean, c.judge.ensures.looks.clean) in
+          omega (arith, clean, c.judge_loss.ensures.looks.clean) in
           let loaded = c.in_ok-loaded.ensures.loaded clean1 t has in
           let are : AreRecordsOf t c.in_ok-loaded.loaded.state = record {
             state = loaded.0.state;
@@ -79,8 +79,8 @@ returns g c =
           c.deref.ensures.value (c.in_ok-judged.ensures.fits clean t loaded.1 are);
       store = search rules;
       looks =
-          looks_then g.S.Store c.args.self.now c.load.new.self c.judge.new.self c.judge.result _
-          c.load.ensures.loads.shelf c.load.ensures.loads.reads c.judge.ensures.looks
+          looks_then g.S.Store c.args.self.now c.load.new.self c.judge_loss.new.self
+          c.judge_loss.result _ c.load.ensures.loads.shelf c.load.ensures.loads.reads c.judge_loss.ensures.looks
           (λ clean t has. (c.in_ok-loaded.ensures.loaded clean t has).1) (search rules);
     }
 
@@ -93,15 +93,15 @@ returns-in_err-judged g c =
       fits = search rules;
       store = λ clean is t has.
           let clean1 : DiskKept g.S.Store c.load.new.self.registry =
-          omega (arith, clean, c.judge.ensures.looks.clean) in
+          omega (arith, clean, c.judge_loss.ensures.looks.clean) in
           let then = (c.in_ok-loaded.ensures.loaded clean1 t has).1 in
           failed_later g.S.Store c.args.self.now.registry c.load.new.self.registry t
-          c.load.ensures.loads.reads has then c.judge.new.self.registry
+          c.load.ensures.loads.reads has then c.judge_loss.new.self.registry
           (c.in_err-judged.ensures.store clean (ap Err (fault_is
           c.from_residual-in_err-judged.result _ _ c.from_residual-in_err-judged.ensures.1 is)) t
           then);
       looks =
-          looks_then g.S.Store c.args.self.now c.load.new.self c.judge.new.self c.judge.result _
-          c.load.ensures.loads.shelf c.load.ensures.loads.reads c.judge.ensures.looks
+          looks_then g.S.Store c.args.self.now c.load.new.self c.judge_loss.new.self
+          c.judge_loss.result _ c.load.ensures.loads.shelf c.load.ensures.loads.reads c.judge_loss.ensures.looks
           (λ clean t has. (c.in_ok-loaded.ensures.loaded clean t has).1) (search rules);
     }

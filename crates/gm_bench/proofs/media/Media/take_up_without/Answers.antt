@@ -1,5 +1,5 @@
 use Rattle.gm_bench.proofs.Common.{rules, ◌≡◌, ◌⊎◌, ◌∙◌, ◌<◌, ◌+◌, ◌^◌, inl, inr, ℕ, List, Some, Err, refl, length, sym, ap, subst, subst₂, arith, Image, World, Intent, DiskKept, LeavesAlone, AreTablesOf, saved, Judged, Loss, dropped, IsFound, CanBeCommitted, HasJudged, IsJudged, LeavesOpened, StaysReadable, loss_call, IsUnwritten, Unreadable, Media, same_mirror, same_component, one_reading, most_rows}
-use Rattle.gm_bench.proofs.LossCarried.{finished_opened, lost_behind, nothing_opened}
+use Rattle.gm_bench.proofs.LossCarried.{finished_opened, judged_new, lost_behind, nothing_opened}
 use Rattle.gm_bench.proofs.TakenUp.{absent_back, moved}
 use Rattle.gm_bench.proofs.Causes.{absent_or_unreadable, fault_is, only_absent, passed_unwritten}
 use Rattle.gm_bench.proofs.DecidesOnly.{alone_read, unlost_read}
@@ -252,14 +252,9 @@ returns-in_err-number-in-New g c =
           let is_judged : (away : Image) (ts : List Intent) (bytes : List (List ℕ)) (u w : World)
           → IsFound g.S.Store j r k away ts bytes u w
           → HasJudged g.S.Store j mid k1 c.args.key.now c.args.provider loss away ts bytes u w =
-          λ away ts bytes u w at. (
-          let was = (c.in_ok-looked.ensures.looked h clean1 away ts bytes u w at).0 in
-          record {
-            found = was.found;
-            judged = subst (λ (x : Judged). IsJudged w ts bytes c.args.key.now c.args.provider x)
-                c.in-New.is
-                was.judged;
-          }) in
+          λ away ts bytes u w at. judged_new g.S.Store j mid k1 c.args.key.now c.args.provider
+          c.in_ok-looked.looked loss away ts bytes u w c.in-New.is
+          (c.in_ok-looked.ensures.looked h clean1 away ts bytes u w at).0 in
           inr (
             loss.mirror,
             dropped c.args.provider c.in_ok-looked.looked.intents.items,
@@ -394,14 +389,9 @@ returns g c =
           let is_judged : (away : Image) (ts : List Intent) (bytes : List (List ℕ)) (u w : World)
           → IsFound g.S.Store j r k away ts bytes u w
           → HasJudged g.S.Store j mid k1 c.args.key.now c.args.provider loss away ts bytes u w =
-          λ away ts bytes u w at. (
-          let was = (c.in_ok-looked.ensures.looked h clean1 away ts bytes u w at).0 in
-          record {
-            found = was.found;
-            judged = subst (λ (x : Judged). IsJudged w ts bytes c.args.key.now c.args.provider x)
-                c.in-New.is
-                was.judged;
-          }) in
+          λ away ts bytes u w at. judged_new g.S.Store j mid k1 c.args.key.now c.args.provider
+          c.in_ok-looked.looked loss away ts bytes u w c.in-New.is
+          (c.in_ok-looked.ensures.looked h clean1 away ts bytes u w at).0 in
           inr (
             loss.mirror,
             dropped c.args.provider c.in_ok-looked.looked.intents.items,
@@ -428,14 +418,9 @@ returns g c =
           let is_judged : (away : Image) (ts : List Intent) (bytes : List (List ℕ)) (u w : World)
           → IsFound g.S.Store j r k away ts bytes u w
           → HasJudged g.S.Store j mid k1 c.args.key.now c.args.provider loss away ts bytes u w =
-          λ away ts bytes u w at. (
-          let was = (c.in_ok-looked.ensures.looked h clean1 away ts bytes u w at).0 in
-          record {
-            found = was.found;
-            judged = subst (λ (x : Judged). IsJudged w ts bytes c.args.key.now c.args.provider x)
-                c.in-New.is
-                was.judged;
-          }) in
+          λ away ts bytes u w at. judged_new g.S.Store j mid k1 c.args.key.now c.args.provider
+          c.in_ok-looked.looked loss away ts bytes u w c.in-New.is
+          (c.in_ok-looked.ensures.looked h clean1 away ts bytes u w at).0 in
           let items : c.len-redone.result ≡ length c.in_ok-looked.looked.intents.items = search
           rules in (
             loss.mirror,
