@@ -141,6 +141,21 @@ if has_python 'builds'; then
     [ -z "$(ls -A "$work/temporary")" ] && pass 'it leaves nothing beside' ||
         fail 'it leaves nothing beside' "$(ls -A "$work/temporary")"
 
+    # ---- the crates below the program alone, for ./check
+
+    begin
+    PATH=$path TMPDIR=$work/temporary timeout 60 "$here/tools/build" --crates >"$work/output" 2>"$work/complaints" </dev/null
+    status=$?
+    begun=$(grep '^begin' "$notes/log" | LC_ALL=C sort | tr '\n' ' ')
+    [ "$status" = 0 ] && [ "$begun" = 'begin base begin left begin right begin upper ' ] && pass 'the crates below the program' ||
+        fail 'the crates below the program' "status $status: $begun"
+    expect_nothing_left 'the crates below the program'
+    begin forgets
+    PATH=$path TMPDIR=$work/temporary timeout 60 "$here/tools/build" --crates >"$work/output" 2>"$work/complaints" </dev/null
+    status=$?
+    [ "$status" = 0 ] && [ ! -e "$notes/log" ] && pass 'a kit that keeps nothing has nothing to prove first' ||
+        fail 'a kit that keeps nothing has nothing to prove first' "status $status: $(cat "$notes/log" 2>/dev/null)"
+
     # ---- two at once
 
     begin
@@ -242,5 +257,5 @@ if has_python 'builds'; then
 fi
 "$here/tools/build" >"$work/output" 2>"$work/complaints"
 status=$?
-expect 'no file to build' 2 '' 'usage: tools/build FILE'
+expect 'no file to build' 2 '' 'usage: tools/build FILE | --crates'
 finish

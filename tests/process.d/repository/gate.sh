@@ -71,6 +71,32 @@ say '40 passed, 0 failed\n' 0 '# words/lines\n' 1
 expect_end 'tests that did not come to their end' 1 '# it took a time
 40 passed, 1 failed'
 
+# ---- a kit that keeps what it proved proves the crates of the program first, and then tries all
+
+cat >"$work/path/rt" <<'END'
+#!/bin/sh
+[ "$1" != help ] || echo 'rt ci --anew'
+[ "$1" = ci ] || exit 0
+echo "$*" >>"$told/order"
+cat "$told/rt"
+END
+cat >"$here/tools/build" <<'END'
+#!/bin/sh
+echo "build $*" >>"$told/order"
+exit 1
+END
+chmod +x "$here/tools/build"
+say '40 passed, 0 failed\n' 0 '# words/lines\nok one\n2 passed, 0 failed\n' 0
+expect_order() {
+    rm -f "$told/order"
+    PATH=$work/path:$PATH "$here/check" $2 >"$work/printed" 2>&1 </dev/null
+    status=$?
+    [ "$status" = 0 ] && [ "$(cat "$told/order")" = "$3" ] && pass "$1" || fail "$1" "status $status: $(cat "$told/order")"
+}
+expect_order 'the crates of the program come first' '' 'build --crates
+ci'
+expect_order 'but not if all is proved anew' --anew 'ci --anew'
+
 # ---- ./check --times says what went to which crate
 
 # Stands for `rt ci`, by processes that work for some seconds with the words and in the folders of real ones.
