@@ -115,15 +115,23 @@ work gmbench --crate-checked checked &
 wait
 cat "$told/rt"
 END
+cat >"$here/tests/process" <<'END'
+#!/bin/sh
+awk 'BEGIN { for (n = 0; n < 40000000; n++) m += n }' --crate-name gm_four
+cat "$told/process"
+END
 say '40 passed, 0 failed\n' 0 '# words/lines\nok one\n2 passed, 0 failed\n' 0
 cp "$top/tools/times" "$here/tools"
 PATH=$work/path:$PATH KEEP_TIMES=$work/kept-times "$here/check" --times >"$work/printed" 2>&1 </dev/null
 grep -q '^# it took' "$work/kept-times" && grep -q 'gm_one *proof$' "$work/kept-times" && pass 'the table is kept' ||
     fail 'the table is kept' "there is $(cat "$work/kept-times" 2>&1)"
-for row in 'gm_one *proof' 'gm_one *proof of tests' 'gm_two *seed of edits' 'gm_two *edits' 'gm_three *edits' 'gmbench *compiling'; do
+for row in 'gm_one *proof' 'gm_one *proof of tests' 'gm_two *seed of edits' 'gm_two *edits' 'gm_three *edits' 'gmbench *compiling' \
+    'tests/process *running'; do
     sed -n '/^# processor seconds/,/^# it took/p' "$work/printed" | grep -q "^ *[1-9][0-9]*  $row$" &&
         pass "the table has $row" || fail "the table has $row" "it printed $(cat "$work/printed")"
 done
+grep -q gm_four "$work/printed" && fail 'what the tests start is theirs' "it printed $(cat "$work/printed")" ||
+    pass 'what the tests start is theirs'
 
 # ---- each file of tests says in its first line what it shows
 
