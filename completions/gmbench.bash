@@ -5,16 +5,16 @@ _gmbench_options() {
     case $1 in
         dump | taste) echo --shelf --json --explain --help ;;
         pending) echo --registry --shelf --explain --wait --json --help ;;
-        recover) echo --registry --shelf --existing --explain --wait --json --without --key --help ;;
+        recover) echo --registry --shelf --existing --explain --wait --json --unchecked --force --without --key --help ;;
         status | list | audit) echo --registry --shelf --existing --explain --wait --json --read-only --help ;;
         scrub) echo --registry --shelf --explain --wait --json --quiet --help ;;
         check) echo --registry --shelf --explain --wait --data --json --quiet --help ;;
         do) echo --registry --shelf --existing --explain --wait --json --unchecked --force --help ;;
-        batch) echo --registry --shelf --existing --explain --wait --audit --stop --help ;;
+        batch) echo --registry --shelf --existing --explain --wait --audit --guarded --stop --help ;;
         replace) echo --registry --shelf --explain --wait --unchecked --force --quiet --key --help ;;
         write) echo --registry --shelf --explain --wait --unchecked --force --quiet --key --first --file --help ;;
-        sync) echo --registry --shelf --explain --wait --json --unchecked --quiet --help ;;
-        serve) echo --registry --shelf --existing --explain --wait --port --count --log --audit --any-origin --help ;;
+        sync) echo --registry --shelf --explain --wait --json --unchecked --force --quiet --help ;;
+        serve) echo --registry --shelf --existing --explain --wait --port --count --log --audit --guarded --any-origin --help ;;
         by-itself) echo --registry --shelf --existing --explain --wait --json --unchecked --force --key --help ;;
     esac
 }

@@ -2,7 +2,7 @@
 
 use crate::folder::Folder;
 use crate::reason::Known;
-use crate::withheld::say_withheld;
+use crate::withheld::{say_losing, say_withheld};
 use gm_bench::Answer;
 use gm_commands::Command;
 use gm_front::{Listener, Outcome};
@@ -134,6 +134,12 @@ impl<'a, E: Write> Explainer<'a, E> {
         if self.wanted {
             say_withheld(self.complaints, key, list, all_the_same);
         }
+    }
+
+    /// What would be lost by a command under a key, in sentences, and how it is carried out all the
+    /// same. It is told also if refusals aren't explained.
+    pub fn tell_losing(&mut self, key: &str, sentences: &[String], all_the_same: &str) {
+        say_losing(self.complaints, key, sentences, all_the_same);
     }
 
     /// When a command was done that is repeated.

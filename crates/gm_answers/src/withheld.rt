@@ -1,4 +1,4 @@
-//! What is said if images stand in the way of a command.
+//! What is said if images stand in the way of a command, or it would lose something.
 
 use gm_looks::{Standing, Unlike};
 use std::io::Write;
@@ -39,6 +39,19 @@ pub(crate) fn say_withheld<E: Write>(
         let provider = unlike.provider;
         let way_on = way_on(unlike.standing);
         let _ = writeln!(complaints, "{key}: {provider} {way_on}");
+    }
+    let _ = writeln!(complaints, "{key}: {all_the_same}");
+}
+
+/// Says what would be lost by a command, and then how it is carried out all the same.
+pub(crate) fn say_losing<E: Write>(
+    complaints: &mut E,
+    key: &str,
+    sentences: &[String],
+    all_the_same: &str,
+) {
+    for sentence in sentences {
+        let _ = writeln!(complaints, "{key}: {sentence}");
     }
     let _ = writeln!(complaints, "{key}: {all_the_same}");
 }

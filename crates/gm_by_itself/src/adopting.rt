@@ -9,10 +9,10 @@ ghost use Rattle.gm_process.specs.Statuses.{MayRefuse};
 use crate::by_itself::hand_in_by_itself;
 use gm_bench::Bench;
 use gm_command_line::{Checks, Form, Single, Unnumbered};
+use gm_commands::{Command, Providers};
 use gm_faults::Fault;
-use gm_handing_in::whole_sentence;
+use gm_handing_in::losses_told;
 use gm_looks::taste_shelf;
-use gm_losses::whole_among;
 use gm_metadata::Label;
 use gm_process::{Status, Streams};
 use gm_shelf::{FileShelf, Shelf};
@@ -105,36 +105,41 @@ fn say_left<O: Write>(output: &mut O, name: Label, why: Left) -> io::Result<()> 
     }
 }
 
-// The images that are whole, if the mirror's source is DIRTY.
-fn whole_of(alloc: Global, group: &Group) -> Result<Vec<Label>, AllocError> {
-    let providers: Vec<Label> = group
+// The command that adopts a mirror from all images of it that aren't BROKEN; `None` if each is.
+fn adoption_of(alloc: Global, group: &Group) -> Result<Option<Command>, AllocError> {
+    let named: Vec<Label> = group
         .members
         .iter()
         .filter(|member| is_adoptable(member))
         .map(|member| member.provider)
         .collect(alloc)?;
-    whole_among(alloc, &group.members, &providers)
+    let name = group.name;
+    match Providers::new(named) {
+        Some(providers) => Ok(Some(Command::Adopt { name, providers })),
+        None => Ok(None),
+    }
 }
 
-// Whether a mirror is left because its source is DIRTY and images of it are whole, unless that is
-// forced. It then says which line adopts these.
-fn is_left_for_whole<O: Write>(
-    alloc: Global,
+// Whether a mirror is left because its adoption would take something away, unless that is forced.
+// It then says what.
+fn is_left_for_losses<I, O: Write, E: Write>(
+    rt: &HostRuntime,
+    state: &State,
     group: &Group,
     checks: Checks,
-    output: &mut O,
+    streams: &mut Streams<'_, I, O, E>,
 ) -> Result<bool, Fault> {
     if !checks.losses {
         return Ok(false);
     }
-    let whole = whole_of(alloc, group)?;
-    if whole.is_empty() {
+    let Some(command) = adoption_of(rt.alloc(), group)? else {
         return Ok(false);
+    };
+    let sentences = losses_told(rt, state, &command, streams)?;
+    for sentence in &sentences {
+        writeln!(streams.output, "{} left: {sentence}", group.name)?;
     }
-    let name = group.name;
-    let sentence = whole_sentence(alloc, name, &whole)?;
-    writeln!(output, "{name} left: {sentence}")?;
-    Ok(true)
+    Ok(!sentences.is_empty())
 }
 
 // The words of the command that adopts a mirror.
@@ -151,7 +156,7 @@ fn words_of(alloc: Global, group: &Group) -> Result<Vec<&str>, AllocError> {
     Ok(words)
 }
 
-// Adopts a mirror.
+// Adopts a mirror. What that would take away was looked at before.
 fn adopt<S: Alter, H: Shelf, I: BufRead, O: Write, E: Write>(
     rt: &HostRuntime,
     group: &Group,
@@ -171,7 +176,10 @@ fn adopt<S: Alter, H: Shelf, I: BufRead, O: Write, E: Write>(
             mirror: false,
             component: false,
         },
-        checks,
+        checks: Checks {
+            losses: false,
+            ..checks
+        },
         form: Form::Text,
     };
     hand_in_by_itself(rt, single, bench, streams)
@@ -198,15 +206,15 @@ fn adopt_or_leave<S: Alter, H: Shelf, I: BufRead, O: Write, E: Write>(
         say_left(streams.output, group.name, why)?;
         return Ok(Status::Refused);
     }
-    if is_left_for_whole(rt.alloc(), group, checks, streams.output)? {
+    if is_left_for_losses(rt, &state, group, checks, streams)? {
         return Ok(Status::Refused);
     }
     adopt(rt, group, checks, bench, streams)
 }
 
 /// Adopts each mirror that the images of the folder show whole, under keys of gmbench's own, and
-/// names the others. One whose source is DIRTY is left if another image of it is whole, unless that
-/// is forced. It is refused if one is left or refused.
+/// names the others. One is left if its adoption would take something away, unless that is forced.
+/// It is refused if one is left or refused.
 pub fn adopt_all<S: Alter, H: Shelf, I: BufRead, O: Write, E: Write>(
     rt: &HostRuntime,
     checks: Checks,

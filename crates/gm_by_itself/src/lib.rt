@@ -1,12 +1,13 @@
 //! Commands by themselves: `gmbench label gm0 a.img`, without a key and numbers.
 //!
 //! `by_itself.rt` hands one in as `do` does. `keys.rt` finds a key for it that no command has,
-//! and `own_numbers.rt` the numbers that it wasn't given. `adopting.rt` adopts all mirrors of a
-//! folder.
+//! `own_numbers.rt` draws the numbers that it wasn't given, and `free_numbers.rt` says which are
+//! free. `adopting.rt` adopts all mirrors of a folder.
 #![tactic(auto)]
 
 mod adopting;
 mod by_itself;
+mod free_numbers;
 mod keys;
 mod own_numbers;
 

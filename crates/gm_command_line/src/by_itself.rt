@@ -9,14 +9,14 @@ use std::alloc::{AllocError, Global};
 const MID: Argument = Argument {
     word: "--mid",
     value: "N",
-    help: "The mirror's number; if it is left out, the least that is free",
+    help: "The mirror's number; if it is left out, one is drawn at random",
     ..OPTION
 };
 
 const DID: Argument = Argument {
     word: "--did",
     value: "N",
-    help: "The component's number; if it is left out, the least that is free",
+    help: "The component's number; if it is left out, one is drawn at random",
     ..OPTION
 };
 

@@ -166,7 +166,8 @@ one isn't as it is registered, nothing is done. This is printed, and the status 
                     another component, older, newer or changed
 With --unchecked it is carried out all the same. Nor is it done if data are lost then that nobody
 said are to be lost: a sentence says which. At a terminal it asks, and goes on after `yes`; with
---force it doesn't ask.
+--force it doesn't ask. Nor is it done if an image is in use: another program has it open for
+writing or locked, or a loop device has it. --force carries it out all the same.
 
 Example:
   gmbench do --registry registry --shelf images k1 label --mid 7 --did 1 gm0 a.img";
@@ -176,8 +177,9 @@ pub(crate) const FILLING: &str =
     "Without NAME it fills the components of all mirrors, without PROV all of the mirror's. It hands
 in `advance` under keys of its own, `sync-N`, so that it may be stopped at any time and be begun
 again. First it audits those mirrors. One with an image that isn't as it is registered is passed
-over: the image is named, nothing is written to the mirror, and the status is 1. At the end a line
-for each component says its state:
+over: the image is named, nothing is written to the mirror, and the status is 1. If one of their
+images is in use, nothing is filled, it prints `not done`, and the status is 1, unless --force is
+given. At the end a line for each component says its state:
   NAME PROV STATE
 With --json that is one line, with these as `components` and the named images as `passed_over`.";
 
@@ -233,7 +235,8 @@ it, and after the filling a line says NEW's state.
 
 It may be stopped at any time. The same words go on where it was; if neither OLD nor NEW is in the
 mirror then, with --key and the first key. If NEW is ACTIVE in the mirror before it begins, OLD
-would be removed and nothing added. So without that key it asks first, or wants --force.
+would be removed and nothing added. So without that key it asks first, or wants --force. If NEW or
+an image of the mirror is in use, nothing is done without --force.
 
 Example:
   gmbench replace gm0 b.img c.img";
@@ -246,7 +249,8 @@ it. Each is answered as `do` answers it, and the first that is refused ends it.
 
 FILE's length must be a multiple of 512, and the mirror must have all those sectors. The registry
 keeps the data for ever, twice as long as FILE: above 16 MiB that wants --force. Without it,
-deactivate all but one image, change that one by other means, activate the others, and sync.
+deactivate all but one image, change that one by other means, activate the others, and sync. If an
+image of the mirror is in use, nothing is written without --force.
 
 It may be stopped at any time. The same words with --key and the first key go on where it was, and
 are refused if FILE has other data then.

@@ -29,6 +29,8 @@ pub struct Service {
     pub audits: bool,
     /// Whether requests that web pages sent are served too.
     pub any_origin: bool,
+    /// Whether each command is held to what is looked at before one that is handed in by itself.
+    pub guards: bool,
 }
 
 /// In which form something is printed.
@@ -56,6 +58,8 @@ pub struct Filling {
     /// Whether the images are audited first, and nothing is filled if the audit lists one of the
     /// mirrors'.
     pub audits: bool,
+    /// Whether nothing is filled while something else uses one of the mirrors' images.
+    pub heeds_use: bool,
     /// Whether nothing is told of how far it is.
     pub is_quiet: bool,
     pub form: Form,
@@ -81,13 +85,16 @@ pub struct Checking {
     pub is_quiet: bool,
 }
 
-/// What is looked at before one command is handed in.
+/// What is looked at before images are written.
 #[derive(Clone, Copy)]
 pub struct Checks {
-    /// Whether the images that it is about are to be as they are registered.
+    /// Whether they are to be as they are registered, or of a recovery, what lies under the names
+    /// of pending images to be what was left there.
     pub images: bool,
-    /// Whether it may take nothing away that is lost then.
+    /// Whether nothing may be taken away that is lost then.
     pub losses: bool,
+    /// Whether nothing else may use them meanwhile.
+    pub uses: bool,
 }
 
 /// A command by itself.
@@ -138,12 +145,16 @@ pub struct Writing<'a> {
 #[derive(Clone, Copy)]
 pub enum Work<'a> {
     /// Nothing more: say how much was pending.
-    Recover(Form),
+    Recover {
+        checks: Checks,
+        form: Form,
+    },
     /// The same of a bench that is opened without a provider, which is given up under a key, any
     /// text: say as well what that is answered.
     RecoverWithout {
         provider: Label,
         key: &'a str,
+        checks: Checks,
         form: Form,
     },
     /// Say how the mirrors stand.
@@ -171,10 +182,12 @@ pub enum Work<'a> {
     Write(Writing<'a>),
     /// Hand in the commands of an input, and answer each. If it audits, the images that a command
     /// is about are looked at before it, and it ends at the first command that one stands in the
-    /// way of; if it stops, it ends at the first that is refused.
+    /// way of; if it stops, it ends at the first that is refused; if it guards, each command is
+    /// held to what is looked at before one that is handed in by itself.
     Batch {
         audits: bool,
         stops: bool,
+        guards: bool,
     },
     /// Fill components.
     Sync(Filling),

@@ -202,6 +202,7 @@ fn service_of(given: &ArgMatches<'_>) -> Service {
         logs: given.get_flag("log"),
         audits: given.get_flag("audit"),
         any_origin: given.get_flag("any-origin"),
+        guards: given.get_flag("guarded"),
     }
 }
 
@@ -214,14 +215,17 @@ fn recovery_of<'a>(
     match (given.get_str("without"), given.get_str("key")) {
         (Some(provider), Some(key)) => {
             let provider = WITHOUT.label(alloc, settings, provider)?;
-            let form = form_of(given);
             Ok(Work::RecoverWithout {
                 provider,
                 key,
-                form,
+                checks: checks_of(given),
+                form: form_of(given),
             })
         }
-        _ => Ok(Work::Recover(form_of(given))),
+        _ => Ok(Work::Recover {
+            checks: checks_of(given),
+            form: form_of(given),
+        }),
     }
 }
 
@@ -253,6 +257,7 @@ fn filling_of<'a>(
     Ok(Filling {
         scope: scope_of(alloc, given, settings)?,
         audits: !given.get_flag("unchecked"),
+        heeds_use: !given.get_flag("force"),
         is_quiet: given.get_flag("quiet"),
         form: form_of(given),
     })
@@ -337,11 +342,12 @@ fn command_of<'a>(given: &ArgMatches<'a>, words: &'a [&'a str]) -> Work<'a> {
     }
 }
 
-// What is looked at before one command is handed in.
+// What is looked at before images are written.
 fn checks_of(given: &ArgMatches<'_>) -> Checks {
     Checks {
         images: !given.get_flag("unchecked"),
         losses: !given.get_flag("force"),
+        uses: !given.get_flag("force"),
     }
 }
 
@@ -366,6 +372,7 @@ fn work_of<'a>(
         "batch" => Some(Work::Batch {
             audits: given.get_flag("audit"),
             stops: given.get_flag("stop"),
+            guards: given.get_flag("guarded"),
         }),
         "sync" => Some(Work::Sync(filling_of(alloc, given, settings)?)),
         "serve" => Some(Work::Serve(service_of(given))),

@@ -39,10 +39,22 @@ const UNCHECKED: Argument = Argument {
     ..FLAG
 };
 
+// Of a recovery, which compares other things.
+const UNCHECKED_LEFT: Argument = Argument {
+    help: "Doesn't look first at what lies under the names of pending images",
+    ..UNCHECKED
+};
+
 const FORCE: Argument = Argument {
     word: "--force",
-    help: "Carries it out even if data are lost then",
+    help: "Carries it out even if data are lost then, or something else uses an image",
     ..FLAG
+};
+
+// Of what takes no data away.
+const FORCE_USED: Argument = Argument {
+    help: "Writes to images even if something else uses them",
+    ..FORCE
 };
 
 const DATA: Argument = Argument {
@@ -60,6 +72,12 @@ const QUIET: Argument = Argument {
 const AUDIT: Argument = Argument {
     word: "--audit",
     help: "Carries out no command if an image of its mirror isn't as it is registered",
+    ..FLAG
+};
+
+const GUARDED: Argument = Argument {
+    word: "--guarded",
+    help: "Carries out no command that `do` would ask about or hold back",
     ..FLAG
 };
 
@@ -270,6 +288,8 @@ pub(crate) const RECOVER: Subcommand = Subcommand {
         EXPLAIN,
         WAIT,
         JSON,
+        UNCHECKED_LEFT,
+        FORCE_USED,
         WITHOUT,
         KEY_OF_LOSS,
     ],
@@ -286,6 +306,7 @@ pub(crate) const SYNC: Subcommand = Subcommand {
         WAIT,
         JSON,
         UNCHECKED,
+        FORCE_USED,
         QUIET,
         MIRROR_IF_ANY,
         IMAGE_IF_ANY,
@@ -392,7 +413,9 @@ const SUBCOMMANDS: [Subcommand; 15] = [
         name: "batch",
         about: "Carries out the commands of standard input, a line each",
         more: LINES,
-        takes: &[REGISTRY, SHELF, EXISTING, EXPLAIN, WAIT, AUDIT, STOP],
+        takes: &[
+            REGISTRY, SHELF, EXISTING, EXPLAIN, WAIT, AUDIT, GUARDED, STOP,
+        ],
     },
     REPLACE,
     WRITE,
@@ -402,7 +425,7 @@ const SUBCOMMANDS: [Subcommand; 15] = [
         about: "Answers requests over HTTP, on 127.0.0.1 alone",
         more: REQUESTS,
         takes: &[
-            REGISTRY, SHELF, EXISTING, EXPLAIN, WAIT, PORT, COUNT, LOG, AUDIT, ANY_ORIGIN,
+            REGISTRY, SHELF, EXISTING, EXPLAIN, WAIT, PORT, COUNT, LOG, AUDIT, GUARDED, ANY_ORIGIN,
         ],
     },
 ];

@@ -19,7 +19,7 @@ pub(crate) fn fault_sentence(fault: BenchFault) -> &'static str {
         BenchFault::Store => "the registry isn't one, or can't be read or written",
         BenchFault::Disk => "an image can't be read or written, or isn't the file that it was",
         BenchFault::Closed => "an earlier fault ended this",
-        BenchFault::Absent(_) => "IMAGE isn't there in its size, and a write to it is pending",
+        BenchFault::Absent(_) => "IMAGE isn't there as it was left, and a write to it is pending",
         BenchFault::Unreadable =>
             "the registry has a view, a table or statistics more, or rows that say no mirrors",
     }

@@ -8,9 +8,11 @@ ghost use Rattle.gm_process.specs.declared.status.Status.TheVariants.{Refused};
 
 use crate::needs::{name_room, name_stale, needed};
 use crate::standing::{refused_json, standing_json, standing_text};
+use crate::uses::{in_use_report, in_use_to_fill};
 use gm_bench::{Bench, BenchFault};
 use gm_command_line::{self, Filling, Form};
 use gm_faults::Fault;
+use gm_in_use::InUse;
 use gm_metadata::Label;
 use gm_process::{Meter, Status, Streams};
 use gm_refusals::CallRefusal;
@@ -80,6 +82,25 @@ fn not_there<S: Alter, H: Shelf>(
             }
         }
     }
+}
+
+// The first image that something else uses, of the mirrors that are to be filled, if that matters.
+fn in_use<S: Alter, H: Shelf, I, O, E>(
+    rt: &HostRuntime,
+    filling: Filling,
+    scope: &Scope,
+    bench: &mut Bench<S, H>,
+    streams: &Streams<'_, I, O, E>,
+) -> Result<Option<InUse>, Fault>
+    requires { TakesCommands (progress_of bench.old) }
+    ensures { OnOk result (TakesCommands (progress_of bench.new)) }
+{
+    if !filling.heeds_use {
+        return Ok(None);
+    }
+    let state = bench.view(rt.alloc())?;
+    let folder = streams.explaining.folder.as_str();
+    Ok(in_use_to_fill(rt, folder, &state, scope)?)
 }
 
 // What a refused advance is about.
@@ -187,8 +208,36 @@ fn not_there_report<I, O, E: Write>(
     }
 }
 
+// Fills the components that are meant, and says how they stand then.
+fn fill<S: Alter, H: Shelf, I, O, E: Write>(
+    rt: &HostRuntime,
+    filling: Filling,
+    scope: Scope,
+    bench: &mut Bench<S, H>,
+    streams: &mut Streams<'_, I, O, E>,
+) -> Result<Report, Fault>
+    requires { TakesCommands (progress_of bench.old) }
+    ensures ends { IfOk result (λ report. MayRefuse report.status) }
+    ensures phase { OnOk result (TakesCommands (progress_of bench.new)) }
+{
+    let alloc = rt.alloc();
+    let style = streams.explaining.style(filling.is_quiet);
+    let mut filled = Filled {
+        meter: Meter::new(rt, streams.complaints, style),
+        scope,
+        has_begun: false,
+    };
+    let synced = sync(alloc, bench, &scope, filling.audits, &mut filled);
+    filled.meter.end();
+    match filling.form {
+        Form::Text => Ok(synced_report(alloc, streams, &synced?, &scope)?),
+        Form::Json => Ok(synced_report_as_json(alloc, streams, &synced?, &scope)?),
+    }
+}
+
 /// Fills components, and says how they stand then. It is refused if a mirror is passed over,
-/// because an image of it isn't as it is registered, also if all others are filled.
+/// because an image of it isn't as it is registered, also if all others are filled. Nothing is
+/// filled if something else uses an image of one of the mirrors and that matters.
 pub fn fill_components<S: Alter, H: Shelf, I, O, E: Write>(
     rt: &HostRuntime,
     filling: Filling,
@@ -204,16 +253,8 @@ pub fn fill_components<S: Alter, H: Shelf, I, O, E: Write>(
     if let Some(why) = not_there(alloc, bench, scope)? {
         return Ok(not_there_report(alloc, streams, why, filling.form)?);
     }
-    let style = streams.explaining.style(filling.is_quiet);
-    let mut filled = Filled {
-        meter: Meter::new(rt, streams.complaints, style),
-        scope,
-        has_begun: false,
-    };
-    let synced = sync(alloc, bench, &scope, filling.audits, &mut filled);
-    filled.meter.end();
-    match filling.form {
-        Form::Text => Ok(synced_report(alloc, streams, &synced?, &scope)?),
-        Form::Json => Ok(synced_report_as_json(alloc, streams, &synced?, &scope)?),
+    if let Some(found) = in_use(rt, filling, &scope, bench, streams)? {
+        return Ok(in_use_report(alloc, &found, filling.form, streams)?);
     }
+    fill(rt, filling, scope, bench, streams)
 }

@@ -1,4 +1,5 @@
-//! How components stand, in a line each or as JSON, and that filling them is refused, as JSON.
+//! How components stand, in a line each or as JSON, and that filling them is refused or isn't done,
+//! as JSON.
 
 use gm_metadata::Label;
 use gm_reports::as_line;
@@ -79,6 +80,12 @@ pub(crate) fn standing_json(
     }
     let images = name_values(alloc, &passed_over.images)?;
     let value = json!(in alloc; {"components": components, "passed_over": images})?;
+    as_line(value.to_string(alloc)?)
+}
+
+/// A line of JSON that nothing is done.
+pub(crate) fn not_done_json(alloc: Global) -> Result<String, AllocError> {
+    let value = json!(in alloc; {"answer": "not done"})?;
     as_line(value.to_string(alloc)?)
 }
 

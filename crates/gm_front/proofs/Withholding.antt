@@ -27,7 +27,7 @@ same_carried P k l c d is holds =
     subst (λ (x : Command). P l x) command (subst (λ (x : List ℕ). P x c) key holds)
 
 -- all of what is told was written, or a beginning of it
-tells_of : (told : Told) (before now : Option (List ℕ)) (response : Result Response FrontFault)
+pub tells_of : (told : Told) (before now : Option (List ℕ)) (response : Result Response FrontFault)
     → IfOk response (λ it. (it.status ≡ told.status) × Appends before now (bytes_of told))
     → OnErr response (AppendsFront before now (bytes_of told))
     → IfErr response (λ e. e ≡ Read → ⊥)

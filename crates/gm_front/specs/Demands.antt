@@ -44,7 +44,7 @@ demand_of asked.TooLarge = TurnedDown status.TooLarge (codes "too large")
 demand_of asked.Status = AllMirrors
 demand_of (asked.Mirror name) = OneMirror name
 demand_of (asked.Metadata provider) = LastSector provider
-demand_of (asked.Command key words) = carried key (spelled words)
+demand_of (asked.Command key words forced) = carried key (spelled words)
 
 -- what is told: a status, and a body
 pub record Told : Type 0 where

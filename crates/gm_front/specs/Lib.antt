@@ -12,3 +12,4 @@ pub mod Outcomes
 pub mod ServedRuns
 pub mod Services
 pub mod Told
+pub mod TurnedBack

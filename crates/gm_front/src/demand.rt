@@ -65,7 +65,7 @@ pub(crate) fn demand_of(alloc: Global, request: Request) -> Result<Demand, Alloc
         Request::Status => Ok(Demand::AllMirrors),
         Request::Mirror(name) => Ok(Demand::OneMirror(name)),
         Request::Metadata(provider) => Ok(Demand::LastSector(provider)),
-        Request::Command { key, words } => {
+        Request::Command { key, words, .. } => {
             let texts = texts_of(alloc, &words)?;
             carried(alloc, key, &texts)
         }

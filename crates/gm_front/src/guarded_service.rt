@@ -59,8 +59,9 @@ fn find_guarded<S: Alter, H: Shelf>(
     }
 }
 
-// Asks the bench what a request demands that was read, and writes the response.
-fn respond_guarded<W: Write, S: Alter, H: Shelf>(
+/// Asks the bench what a request demands that was read, and writes the response, as
+/// `serve_request_guarded` does to any input that asks the same. The caller turns pages away.
+pub fn respond_guarded<W: Write, S: Alter, H: Shelf>(
     alloc: Global,
     writer: &mut W,
     bench: &mut Bench<S, H>,

@@ -14,7 +14,8 @@
 //! what that comes to and what is told of it, and `service.rt` serves it; `specs/Demands.antt` says
 //! what is told in which world, `specs/Services.antt` what serving one owes, and `laws.rt` that it
 //! too is a part of a schedule. `guarded_service.rt` serves one whose command may be held back
-//! (`specs/GuardedServices.antt`).
+//! (`specs/GuardedServices.antt`), and `turned_back.rt` tells why one isn't put to the bench
+//! (`specs/TurnedBack.antt`).
 //!
 //! The words of commands and the texts of mirrors are those of `gm_words`, and can be taken from
 //! here.
@@ -30,12 +31,14 @@ mod listener;
 mod next;
 mod outcome;
 mod service;
+mod turned_back;
 
 pub use answer_lines::{BatchEnd, FrontFault, batch, heard_batch};
 pub use gm_words::{WordsFault, dump_text, list_text, read_words, status_text};
 pub use guard::{Guarded, ask_guarded, in_the_way, withheld_text};
-pub use guarded_service::serve_request_guarded;
+pub use guarded_service::{respond_guarded, serve_request_guarded};
 pub use laws::{served_request_law, unless_page_law, whole_batch_law};
 pub use listener::Listener;
 pub use outcome::{Outcome, ask, loss_text};
 pub use service::{Response, Served, serve_one, serve_request, serve_request_unless_page};
+pub use turned_back::{TurnedBack, turn_back};

@@ -12,12 +12,12 @@ ghost use Rattle.gm_bench.specs.Calls.{Keep};
 ghost use Rattle.gm_bench.specs.Phases.{TakesCommands};
 ghost use Rattle.gm_bench.specs.Recovering.{IsAt};
 ghost use Rattle.gm_front.specs.Batch.{AppendsFront};
-ghost use Rattle.gm_front.specs.Findings.{LeavesBench, told_of};
+ghost use Rattle.gm_front.specs.Findings.{LeavesBench, told_in, told_of};
 ghost use Rattle.gm_front.specs.Services.{Serves, ServesOne, ServesUnlessFailed, ServesUnlessPage, TurnsAway, WasRead, bytes_of, code_told};
 
 use crate::answer_lines::{FrontFault, write_whole};
 use crate::demand::demand_of;
-use crate::finding::{Finding, find};
+use crate::finding::{Finding, Told, find};
 use gm_bench::{Bench, BenchFault};
 use gm_http::{
     Peer, Request, RequestFault, Sender, Status, read_request, receive_request, response,
@@ -44,6 +44,31 @@ pub struct Served {
     pub fault: Option<BenchFault>,
 }
 
+/// Writes the response that tells this.
+pub(crate) fn write_told<W: Write>(
+    alloc: Global,
+    writer: &mut W,
+    told: &Told,
+) -> Result<Response, FrontFault>
+    ensures ok { IfOk result (λ response. (response.status ≡ (told_in told.now).status)
+        × Appends (W.contents writer.old) (W.contents writer.new) (bytes_of (told_in told.now))) }
+    ensures front { OnErr result (AppendsFront (W.contents writer.old) (W.contents writer.new)
+        (bytes_of (told_in told.now))) }
+    ensures read { WasRead result }
+{
+    let Ok(text) = response(alloc, told.status, &told.body) else {
+        return Err(FrontFault::Memory);
+    };
+    write_whole(writer, text.as_bytes())?;
+    match writer.flush() {
+        Ok(()) => Ok(Response {
+            status: told.status,
+            length: told.body.len(),
+        }),
+        Err(_) => Err(FrontFault::Write),
+    }
+}
+
 /// Writes the response that tells a finding.
 pub(crate) fn tell<W: Write>(
     alloc: Global,
@@ -60,17 +85,7 @@ pub(crate) fn tell<W: Write>(
     let Ok(told) = finding.told(alloc) else {
         return Err(FrontFault::Memory);
     };
-    let Ok(text) = response(alloc, told.status, &told.body) else {
-        return Err(FrontFault::Memory);
-    };
-    write_whole(writer, text.as_bytes())?;
-    match writer.flush() {
-        Ok(()) => Ok(Response {
-            status: told.status,
-            length: told.body.len(),
-        }),
-        Err(_) => Err(FrontFault::Write),
-    }
+    write_told(alloc, writer, &told)
 }
 
 /// A request that wasn't put to the bench.

@@ -6,8 +6,11 @@ ghost use Rattle.gm_bench.specs.Phases.{TakesCommands};
 ghost use Rattle.gm_process.specs.Statuses.{MayRefuse};
 ghost use Rattle.gm_handing_in.specs.Ends.{fault_of_front, status_of_end};
 
-use gm_answers::Explainer;
+use crate::forced_line::{ForcedLine, read_forced};
+use crate::guard::{Ground, Weighed, ask_weighed};
+use gm_answers::{Explainer, not_done_in};
 use gm_bench::{Bench, Unwatched};
+use gm_command_line::Form;
 use gm_faults::Fault;
 use gm_front::{
     BatchEnd, FrontFault, Guarded, Listener, Outcome, ask_guarded, heard_batch, withheld_text,
@@ -76,12 +79,16 @@ pub fn hand_in_text<S: Alter, H: Shelf, O: Write, E: Write>(
     status_of_end(heard_batch(rt.alloc(), &mut input, output, bench, &mut explainer))
 }
 
+// How a command is handed in that would lose something.
+const FORCED_ALL_THE_SAME: &str = "--force after the key carries it out all the same";
+
 // How a batch goes on after a line.
 #[derive(Clone, Copy, Debug, PartialEq, Eq)]
 enum Told {
     Done,
     Refused,
-    // images stand in the way of its command, and it wasn't handed in
+    // images stand in the way of its command, or something would be lost by it, and it wasn't
+    // handed in
     Withheld,
 }
 
@@ -134,6 +141,30 @@ fn tell<O: Write, E: Write>(
     }
 }
 
+// Tells what a line came to whose command is handed in only if no image stands in its way.
+fn tell_guarded<O: Write, E: Write>(
+    alloc: Global,
+    line: &[u8],
+    guarded: &Guarded<'_>,
+    all_the_same: &str,
+    output: &mut O,
+    explainer: &mut Explainer<'_, E>,
+) -> Result<Told, Fault> {
+    match guarded {
+        Guarded::Through(outcome) => tell(alloc, line, outcome, output, explainer),
+        Guarded::Unlooked(key, fault) => {
+            let outcome = Outcome::Failed(key, *fault);
+            tell(alloc, line, &outcome, output, explainer)
+        }
+        Guarded::Withheld(key, list) => {
+            output.write_all(withheld_text(alloc, key, list)?.as_bytes())?;
+            output.flush()?;
+            explainer.explain_withheld(key, list, all_the_same);
+            Ok(Told::Withheld)
+        }
+    }
+}
+
 // Answers a line whose command is handed in only if no image stands in its way.
 fn hand_in_guarded<S: Alter, H: Shelf, O: Write, E: Write>(
     alloc: Global,
@@ -145,22 +176,60 @@ fn hand_in_guarded<S: Alter, H: Shelf, O: Write, E: Write>(
     requires { TakesCommands (progress_of bench.old) }
     ensures { TakesCommands (progress_of bench.new) }
 {
-    let line = text.as_bytes();
     let request = request_of(alloc, &pieces(alloc, text)?)?;
-    match ask_guarded(alloc, bench, &request, &mut Unwatched) {
-        Guarded::Through(outcome) => tell(alloc, line, &outcome, output, explainer),
-        Guarded::Unlooked(key, fault) => {
-            tell(alloc, line, &Outcome::Failed(key, fault), output, explainer)
-        }
-        Guarded::Withheld(key, list) => {
-            output.write_all(withheld_text(alloc, key, &list)?.as_bytes())?;
+    let guarded = ask_guarded(alloc, bench, &request, &mut Unwatched);
+    let all_the_same = "without --audit it is carried out all the same";
+    tell_guarded(
+        alloc,
+        text.as_bytes(),
+        &guarded,
+        all_the_same,
+        output,
+        explainer,
+    )
+}
+
+// The line of which a refusal is explained: a forced one without the word that forces it.
+fn explained_line(alloc: Global, text: &str, line: &ForcedLine<'_>) -> Result<String, AllocError> {
+    if line.forced {
+        line.pieces.join(alloc, " ")
+    } else {
+        String::from_str(alloc, text)
+    }
+}
+
+// Answers a line whose command is handed in only if no image stands in its way and, unless it is
+// forced, nothing would be lost by it.
+fn hand_in_weighed<S: Alter, H: Shelf, O: Write, E: Write>(
+    ground: Ground<'_>,
+    text: &str,
+    output: &mut O,
+    bench: &mut Bench<S, H>,
+    explainer: &mut Explainer<'_, E>,
+) -> Result<Told, Fault>
+    requires { TakesCommands (progress_of bench.old) }
+    ensures { TakesCommands (progress_of bench.new) }
+{
+    let alloc = ground.rt.alloc();
+    let line = read_forced(alloc, text)?;
+    match ask_weighed(ground, bench, &line.request, line.forced)? {
+        Weighed::Losing(key, sentences) => {
+            output.write_all(not_done_in(alloc, Form::Text, key)?.as_bytes())?;
             output.flush()?;
-            explainer.explain_withheld(
-                key,
-                &list,
-                "without --audit it is carried out all the same",
-            );
+            explainer.tell_losing(key, &sentences, FORCED_ALL_THE_SAME);
             Ok(Told::Withheld)
+        }
+        Weighed::Passed(guarded) => {
+            let line = explained_line(alloc, text, &line)?;
+            let all_the_same = "without --guarded it is carried out all the same";
+            tell_guarded(
+                alloc,
+                line.as_bytes(),
+                &guarded,
+                all_the_same,
+                output,
+                explainer,
+            )
         }
     }
 }
@@ -170,6 +239,9 @@ fn hand_in_guarded<S: Alter, H: Shelf, O: Write, E: Write>(
 pub struct Lines {
     /// Whether a command is handed in only if no image stands in its way; else the batch ends.
     pub audits: bool,
+    /// Whether it is audited, and handed in only if nothing would be lost by it, or it is forced;
+    /// else the batch ends.
+    pub guards: bool,
     /// Whether it ends at the first line that is refused.
     pub stops: bool,
 }
@@ -177,7 +249,7 @@ pub struct Lines {
 // The text of a line, if it is to be looked at before it is handed in. What isn't UTF-8 is no
 // command.
 fn looked_at(line: Option<&[u8]>, lines: Lines) -> Option<&str> {
-    if !lines.audits {
+    if !lines.audits && !lines.guards {
         return None;
     }
     str::from_utf8(line?).ok()
@@ -203,7 +275,7 @@ fn zeros(alloc: Global, count: usize) -> Result<Vec<u8>, AllocError>
 
 // Answers lines of the input one by one, with room for a line.
 fn hand_in_lines<S: Alter, H: Shelf, I: BufRead, O: Write, E: Write>(
-    alloc: Global,
+    ground: Ground<'_>,
     input: &mut I,
     output: &mut O,
     bench: &mut Bench<S, H>,
@@ -215,6 +287,7 @@ fn hand_in_lines<S: Alter, H: Shelf, I: BufRead, O: Write, E: Write>(
     requires room { length room.old ≡ 131072 }
     ensures { IfOk result MayRefuse }
 {
+    let alloc = ground.rt.alloc();
     let mut refused = false;
     for _ in 0..u64::MAX {
         let line = match next_line(input, room)? {
@@ -223,6 +296,9 @@ fn hand_in_lines<S: Alter, H: Shelf, I: BufRead, O: Write, E: Write>(
             Line::Whole(count) => room.get(..count),
         };
         let told = match looked_at(line, lines) {
+            Some(text) if lines.guards => {
+                hand_in_weighed(ground, text, output, bench, explainer)?
+            }
             Some(text) => hand_in_guarded(alloc, text, output, bench, explainer)?,
             None => hand_in_line(alloc, line, output, bench, explainer)?,
         };
@@ -232,6 +308,25 @@ fn hand_in_lines<S: Alter, H: Shelf, I: BufRead, O: Write, E: Write>(
         refused |= told == Told::Refused;
     }
     Ok(status_of(refused))
+}
+
+// Answers lines of the input one by one, over the images of this folder.
+fn hand_in_over<S: Alter, H: Shelf, I: BufRead, O: Write, E: Write>(
+    rt: &HostRuntime,
+    folder: &str,
+    input: &mut I,
+    output: &mut O,
+    bench: &mut Bench<S, H>,
+    explainer: &mut Explainer<'_, E>,
+    lines: Lines,
+) -> Result<Status, Fault>
+    requires { TakesCommands (progress_of bench.old) }
+    ensures { IfOk result MayRefuse }
+{
+    let mut room = zeros(rt.alloc(), MAX_LINE)?;
+    let room = room.as_mut_slice();
+    let ground = Ground { rt, folder };
+    hand_in_lines(ground, input, output, bench, explainer, lines, room)
 }
 
 /// Hands in the lines of the input one by one, and ends early if a line is one that ends it: what
@@ -245,10 +340,16 @@ pub fn hand_in_lines_of<S: Alter, H: Shelf, I: BufRead, O: Write, E: Write>(
     requires { TakesCommands (progress_of bench.old) }
     ensures { IfOk result MayRefuse }
 {
-    let alloc = rt.alloc();
+    let folder = String::from_str(rt.alloc(), streams.explaining.folder.as_str())?;
     let mut explainer = Explainer::new(rt, streams.complaints, &streams.explaining);
     let (input, output) = (&mut *streams.input, &mut *streams.output);
-    let mut room = zeros(alloc, MAX_LINE)?;
-    let room = room.as_mut_slice();
-    hand_in_lines(alloc, input, output, bench, &mut explainer, lines, room)
+    hand_in_over(
+        rt,
+        folder.as_str(),
+        input,
+        output,
+        bench,
+        &mut explainer,
+        lines,
+    )
 }

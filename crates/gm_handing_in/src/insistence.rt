@@ -22,8 +22,8 @@ fn goes_on<I: BufRead, O, E: Write>(
     Ok(answer.trim() == "yes")
 }
 
-// That the command isn't done.
-fn tell_not_done<I, O: Write, E>(
+/// Prints that the command isn't done.
+pub(crate) fn tell_not_done<I, O: Write, E>(
     alloc: Global,
     key: &str,
     form: Form,

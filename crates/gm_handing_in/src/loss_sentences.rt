@@ -10,9 +10,9 @@ fn begins_as_option(name: Label, providers: &[Label]) -> bool {
     name.as_str().starts_with('-') || providers.iter().any(|p| p.as_str().starts_with('-'))
 }
 
-/// That the source of the mirror of this name is DIRTY, and which line adopts these images of it,
-/// which aren't.
-pub fn whole_sentence(alloc: Global, name: Label, whole: &[Label]) -> Result<String, AllocError> {
+// That the source of the mirror of this name is DIRTY, and which line adopts these images of it,
+// which aren't.
+fn whole_sentence(alloc: Global, name: Label, whole: &[Label]) -> Result<String, AllocError> {
     let dashes = if begins_as_option(name, whole) {
         "-- "
     } else {
@@ -25,6 +25,20 @@ pub fn whole_sentence(alloc: Global, name: Label, whole: &[Label]) -> Result<Str
         write!(sentence, " {provider}")?;
     }
     Ok(sentence)
+}
+
+// That an image has other data than the source of its mirror.
+fn differs_sentence(
+    alloc: Global,
+    provider: Label,
+    sectors: u64,
+    first: u64,
+) -> Result<String, AllocError> {
+    let noun = if sectors == 1 { "sector" } else { "sectors" };
+    format!(in alloc;
+        "{provider} is ACTIVE and differs from the source in {sectors} {noun}, first {first}: \
+both may have gone on alone, and a sync writes over it"
+    )
 }
 
 // What is lost, in a sentence. Of images that are whole there is one for all.
@@ -53,6 +67,14 @@ fn sentence(alloc: Global, loss: &Loss) -> Result<Option<String>, AllocError> {
             provider,
             newer: false,
         } => format!(in alloc; "{provider} is of the same mirror: adopt it too"),
+        Loss::Differs {
+            provider,
+            sectors,
+            first,
+        } => differs_sentence(alloc, *provider, *sectors, *first),
+        Loss::Member { provider, mirror } => format!(in alloc;
+            "{provider} says it is ACTIVE in {mirror}: no registry adopts it without its metadata"
+        ),
         Loss::OnlyCopy { provider } => format!(in alloc;
             "{provider} alone would be ACTIVE, while others aren't filled: sync first"
         ),

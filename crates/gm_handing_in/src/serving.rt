@@ -5,6 +5,8 @@ ghost use Rattle.gm_bench.specs.Benches.{progress_of};
 ghost use Rattle.gm_bench.specs.Phases.{TakesCommands};
 ghost use Rattle.gm_process.specs.declared.status.Status.TheVariants.{Done};
 
+use crate::guard::Ground;
+use crate::guarded_service::serve_weighed;
 use gm_bench::{Bench, BenchFault};
 use gm_command_line::Service;
 use gm_connections::{Incoming, Log, Outgoing, Told, end};
@@ -45,9 +47,10 @@ fn told(response: Result<Response, FrontFault>) -> Option<Told> {
 }
 
 // Serves a request: one that a web page sent only if those of any origin are wanted, and a command
-// only if no image stands in its way, if that is looked at.
+// only if no image stands in its way, if that is looked at, and nothing would be lost by it, if
+// that is.
 fn serve_from<R: Read, W: Write, S: Alter, H: Shelf>(
-    alloc: Global,
+    ground: Ground<'_>,
     peer: &mut Peer<R>,
     outgoing: &mut W,
     service: Service,
@@ -56,8 +59,11 @@ fn serve_from<R: Read, W: Write, S: Alter, H: Shelf>(
     requires { TakesCommands (progress_of bench.old) }
     ensures { TakesCommands (progress_of bench.new) }
 {
+    let alloc = ground.rt.alloc();
     let any_origin = service.any_origin;
-    if service.audits {
+    if service.guards {
+        serve_weighed(ground, peer, outgoing, any_origin, bench)
+    } else if service.audits {
         serve_request_guarded(alloc, peer, outgoing, any_origin, bench)
     } else if any_origin {
         serve_request(alloc, peer, outgoing, bench)
@@ -69,7 +75,7 @@ fn serve_from<R: Read, W: Write, S: Alter, H: Shelf>(
 // Serves a connection, and logs it if that is wanted. Whatever breaks of the connection itself
 // ends it alone; answers why the bench failed, if it did.
 fn serve_connection<S: Alter, H: Shelf, E: Write>(
-    rt: &HostRuntime,
+    ground: Ground<'_>,
     stream: &TcpStream,
     service: Service,
     bench: &mut Bench<S, H>,
@@ -78,12 +84,13 @@ fn serve_connection<S: Alter, H: Shelf, E: Write>(
     requires { TakesCommands (progress_of bench.old) }
     ensures { TakesCommands (progress_of bench.new) }
 {
+    let rt = ground.rt;
     let Ok(incoming) = Incoming::begin(rt, stream) else {
         return None;
     };
     let mut peer = Peer::new(incoming);
     let mut outgoing = Outgoing::new(rt, stream);
-    let served = serve_from(rt.alloc(), &mut peer, &mut outgoing, service, bench);
+    let served = serve_from(ground, &mut peer, &mut outgoing, service, bench);
     if service.logs {
         log.tell(rt, peer.reader.beginning(), told(served.response));
     }
@@ -96,7 +103,7 @@ fn serve_connection<S: Alter, H: Shelf, E: Write>(
 // Serves so many connections of a listener, one after the other, and logs each if that is wanted. A
 // bench that fails ends it.
 fn serve_connections<S: Alter, H: Shelf, E: Write>(
-    rt: &HostRuntime,
+    ground: Ground<'_>,
     listener: &TcpListener,
     service: Service,
     bench: &mut Bench<S, H>,
@@ -112,7 +119,7 @@ fn serve_connections<S: Alter, H: Shelf, E: Write>(
             Err(error) if is_gone(&error) => continue,
             Err(error) => return Err(Fault::from(error)),
         };
-        if let Some(fault) = serve_connection(rt, &stream, service, bench, log) {
+        if let Some(fault) = serve_connection(ground, &stream, service, bench, log) {
             return Err(Fault::Bench(fault));
         }
         left = left.saturating_sub(1);
@@ -137,8 +144,10 @@ pub fn serve<S: Alter, H: Shelf, I: Read, O: Write, E: Write>(
     let port = listener.local_addr()?.port();
     writeln!(streams.output, "listening on 127.0.0.1:{port}")?;
     streams.output.flush()?;
+    let folder = streams.explaining.folder.as_str();
     let mut log = Log::on_standard_error(&mut *streams.complaints);
-    let served = serve_connections(rt, &listener, service, bench, &mut log);
+    let ground = Ground { rt, folder };
+    let served = serve_connections(ground, &listener, service, bench, &mut log);
     log.end(rt);
     served
 }

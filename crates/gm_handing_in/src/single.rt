@@ -7,12 +7,14 @@ ghost use Rattle.gm_front.specs.Outcomes.{is_refused};
 ghost use Rattle.gm_process.specs.Statuses.{MayRefuse, status_of_refused};
 
 use crate::lost_by::lets_go;
+use crate::uses::are_free;
 use gm_answers::{Explainer, outcome_in, print_outcome, say_tip, withheld_in};
 use gm_bench::Bench;
 use gm_command_line::{Checks, Form};
 use gm_commands::is_key;
 use gm_faults::Fault;
 use gm_front::{Guarded, Outcome, ask, ask_guarded, in_the_way};
+use gm_in_use::images_of;
 use gm_lines::{Request, request_of};
 use gm_looks::Unlike;
 use gm_process::{Meter, Status, Streams};
@@ -54,8 +56,9 @@ fn status_of(outcome: &Outcome<'_>) -> Result<Status, Fault>
     }
 }
 
-// Whether a request may be handed in as far as losses go. One that is answered without being
-// carried out loses nothing, and neither does one that images stand in the way of.
+// Whether a request may be handed in as far as losses go, and what else uses the images. One that
+// is answered without being carried out writes nothing, and neither does one that images stand in
+// the way of.
 fn passes<S: Alter, H: Shelf, I: BufRead, O: Write, E: Write>(
     rt: &HostRuntime,
     request: &Request<'_>,
@@ -69,13 +72,27 @@ fn passes<S: Alter, H: Shelf, I: BufRead, O: Write, E: Write>(
     let Request::Call(key, ref command) = *request else {
         return Ok(true);
     };
-    if !one.checks.losses || !is_key(key) || bench.kept(key)?.is_some() {
+    let alloc = rt.alloc();
+    let Checks {
+        images,
+        losses,
+        uses,
+    } = one.checks;
+    if !(losses || uses) || !is_key(key) || bench.kept(key)?.is_some() {
         return Ok(true);
     }
-    if one.checks.images && !in_the_way(rt.alloc(), bench, key, command)?.is_empty() {
+    if images && !in_the_way(alloc, bench, key, command)?.is_empty() {
         return Ok(true);
     }
-    lets_go(rt, key, command, one.form, bench, streams)
+    let state = bench.view(alloc)?;
+    let written = images_of(alloc, &state, command)?;
+    if uses && !are_free(rt, key, one.form, &written, streams)? {
+        return Ok(false);
+    }
+    if !losses {
+        return Ok(true);
+    }
+    lets_go(rt, key, command, one.form, &state, streams)
 }
 
 // Prints what a command came to, and explains it.

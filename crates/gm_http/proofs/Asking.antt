@@ -1,27 +1,28 @@
 -- What is asked, by what was read of an input.
-use Rattle.gm_http.proofs.Common.{◌≡◌, ◌∙◌, ◌≤◌, ◌+◌, ℕ, Bool, true, false, sym, ap, refl, arith, inl, inr, List, ◌++◌, length, take, drop, map, Option, Some, None, Result, Ok, Err, IfOk, IfSome, append_assoc, length-append, nat_lt, slice_range, bytes_eq, nat_tests, length-drop, take-append-le, drop-append-le, request_unique, RequestHead, IsRequestAt, header_bytes, span_bytes, HeaderSpan, RequestSpans, Request, Target, Commands, call_of, length_by, AsksAtHead, Takes, Asked, Asks, NotAllowed, NotFound, asked_at, asked_of, called, sent, taken, method_name, method_of, target_of}
-use Rattle.gm_http.specs.Requests.{asked_by}
+use Rattle.gm_http.proofs.Common.{◌≡◌, ◌∙◌, ◌≤◌, ◌+◌, ℕ, Bool, true, false, sym, ap, refl, arith, inl, inr, List, ◌++◌, length, take, drop, map, Option, Some, None, Result, Ok, Err, IfOk, IfSome, append_assoc, length-append, nat_lt, slice_range, bytes_eq, nat_tests, length-drop, take-append-le, drop-append-le, request_unique, RequestHead, IsRequestAt, header_bytes, span_bytes, HeaderSpan, RequestSpans, Request, Target, Commands, call_of, length_by, AsksAtHead, Takes, Asked, NotAllowed, NotFound, asked_at, asked_of, called, sent, taken, method_name, method_of, target_of}
+use Rattle.gm_http.specs.Requests.{AsksWith, asked_by}
 
 pub for_each : {A : Type 0} (a : Option A) (P : A → Type 0) → ((x : A) → P x) → IfSome a P
 for_each None P all = tt
 for_each (Some x) P all = all x
 
 -- the whole body was read
-sent_whole : (body : List ℕ) (n : ℕ) → n ≤ 131072 → n ≤ length body
-    → sent (Some n) body ≡ called (call_of (take n body))
-sent_whole body n fits whole =
+sent_whole : (takes : Bool) (body : List ℕ) (n : ℕ) → n ≤ 131072 → n ≤ length body
+    → sent takes (Some n) body ≡ called (call_of takes (take n body))
+sent_whole takes body n fits whole =
     let small : nat_lt 131072 n ≡ false = grind (arith, nat_tests) in
     let all : nat_lt (length body) n ≡ false = grind (arith, nat_tests) in
     rw (small, all) refl
 
-pub whole_body : (a b : Option (List ℕ)) (was now : List ℕ) (start n : ℕ) (field : Option ℕ)
-    (asked : Asked) → Takes a b was now → start ≤ length was → n ≤ 131072 → start + n ≤ length now
-    → field ≡ Some n → asked ≡ called (call_of (slice_range now start (start + n)))
-    → IfSome a (λ rest. asked ≡ sent field (drop start was ++ rest))
-whole_body None b was now start n field asked t begins fits whole is asks = tt
-whole_body (Some rest) None was now start n field asked t begins fits whole is asks =
+pub whole_body : (takes : Bool) (a b : Option (List ℕ)) (was now : List ℕ) (start n : ℕ)
+    (field : Option ℕ) (asked : Asked) → Takes a b was now → start ≤ length was → n ≤ 131072
+    → start + n ≤ length now
+    → field ≡ Some n → asked ≡ called (call_of takes (slice_range now start (start + n)))
+    → IfSome a (λ rest. asked ≡ sent takes field (drop start was ++ rest))
+whole_body takes None b was now start n field asked t begins fits whole is asks = tt
+whole_body takes (Some rest) None was now start n field asked t begins fits whole is asks =
     absurd t.consumed
-whole_body (Some rest) (Some left) was now start n field asked t begins fits whole is asks =
+whole_body takes (Some rest) (Some left) was now start n field asked t begins fits whole is asks =
     let behind : drop start was ++ rest ≡ drop start now ++ left =
     ap (λ l. drop start was ++ l) t.consumed ∙ sym (append_assoc (drop start was) t.more left)
     ∙ ap (λ l. l ++ left)
@@ -31,8 +32,9 @@ whole_body (Some rest) (Some left) was now start n field asked t begins fits who
     let front : take n (drop start now ++ left) ≡ slice_range now start (start + n) =
     take-append-le n (drop start now) left there
     ∙ ap (λ k. take k (drop start now)) (omega arith) in
-    asks ∙ ap (λ l. called (call_of l)) (sym front) ∙ sym (sent_whole _ n fits enough)
-    ∙ ap (sent (Some n)) (sym behind) ∙ ap (λ f. sent f (drop start was ++ rest)) (sym is)
+    asks ∙ ap (λ l. called (call_of takes l)) (sym front) ∙ sym (sent_whole takes _ n fits enough)
+    ∙ ap (sent takes (Some n)) (sym behind)
+    ∙ ap (λ f. sent takes f (drop start was ++ rest)) (sym is)
 
 -- what the target names that these spans are of
 abbrev pub IsTargetAt : List ℕ → RequestSpans → Option Target → Type 0
@@ -44,64 +46,65 @@ IsByItsMethod bytes spans target answer =
     bytes_eq (span_bytes bytes spans.method) (method_name (method_of target)) ≡ answer
 
 -- no target
-pub asked_nowhere : (bytes : List ℕ) (headers : List HeaderSpan) (spans : RequestSpans)
-    (rest : List ℕ) → IsTargetAt bytes spans None
-    → AsksAtHead bytes headers spans rest NotFound
+pub asked_nowhere : (takes : Bool) (bytes : List ℕ) (headers : List HeaderSpan)
+    (spans : RequestSpans) (rest : List ℕ) → IsTargetAt bytes spans None
+    → AsksAtHead takes bytes headers spans rest NotFound
 unfolding asked_by
-asked_nowhere bytes headers spans rest is = λ h at.
+asked_nowhere takes bytes headers spans rest is = λ h at.
     let found : None ≡ target_of h.target = is ∙ ap target_of at.path in
-    ap (λ t. asked_at t h (drop spans.len bytes ++ rest)) found
+    ap (λ t. asked_at takes t h (drop spans.len bytes ++ rest)) found
 
 -- a target by another method than its own
-pub asked_otherwise : (bytes : List ℕ) (headers : List HeaderSpan) (spans : RequestSpans)
-    (rest : List ℕ) (target : Target) → IsTargetAt bytes spans (Some target)
+pub asked_otherwise : (takes : Bool) (bytes : List ℕ) (headers : List HeaderSpan)
+    (spans : RequestSpans) (rest : List ℕ) (target : Target) → IsTargetAt bytes spans (Some target)
     → IsByItsMethod bytes spans target false
-    → AsksAtHead bytes headers spans rest (NotAllowed (method_of target))
+    → AsksAtHead takes bytes headers spans rest (NotAllowed (method_of target))
 unfolding asked_by
-asked_otherwise bytes headers spans rest target is other = λ h at.
+asked_otherwise takes bytes headers spans rest target is other = λ h at.
     let found : Some target ≡ target_of h.target = is ∙ ap target_of at.path in
     let isnt : bytes_eq h.method (method_name (method_of target)) ≡ false = rw at.method at other in
     let now : NotAllowed (method_of target)
-    ≡ asked_at (Some target) h (drop spans.len bytes ++ rest) = rw isnt refl in
-    now ∙ ap (λ t. asked_at t h (drop spans.len bytes ++ rest)) found
+    ≡ asked_at takes (Some target) h (drop spans.len bytes ++ rest) = rw isnt refl in
+    now ∙ ap (λ t. asked_at takes t h (drop spans.len bytes ++ rest)) found
 
 -- a target by its own method
-pub asked_duly : (bytes : List ℕ) (headers : List HeaderSpan) (spans : RequestSpans)
+pub asked_duly : (takes : Bool) (bytes : List ℕ) (headers : List HeaderSpan) (spans : RequestSpans)
     (rest : List ℕ) (target : Target) (asked : Asked)
     → IsTargetAt bytes spans (Some target)
     → IsByItsMethod bytes spans target true
     → ((h : RequestHead) → IsRequestAt bytes headers spans h
-    → asked ≡ taken target h (drop spans.len bytes ++ rest))
-    → AsksAtHead bytes headers spans rest asked
+    → asked ≡ taken takes target h (drop spans.len bytes ++ rest))
+    → AsksAtHead takes bytes headers spans rest asked
 unfolding asked_by
-asked_duly bytes headers spans rest target asked is own asks = λ h at.
+asked_duly takes bytes headers spans rest target asked is own asks = λ h at.
     let found : Some target ≡ target_of h.target = is ∙ ap target_of at.path in
     let so : bytes_eq h.method (method_name (method_of target)) ≡ true = rw at.method at own in
-    let now : taken target h (drop spans.len bytes ++ rest)
-    ≡ asked_at (Some target) h (drop spans.len bytes ++ rest) = rw so refl in
-    asks h at ∙ now ∙ ap (λ t. asked_at t h (drop spans.len bytes ++ rest)) found
+    let now : taken takes target h (drop spans.len bytes ++ rest)
+    ≡ asked_at takes (Some target) h (drop spans.len bytes ++ rest) = rw so refl in
+    asks h at ∙ now ∙ ap (λ t. asked_at takes t h (drop spans.len bytes ++ rest)) found
 
 -- a command, by the fields and what follows the head
-pub asked_to_do : {E : Type 0} (r : Result Request E) (a : Option (List ℕ)) (bytes : List ℕ)
-    (headers : List HeaderSpan) (spans : RequestSpans)
+pub asked_to_do : {E : Type 0} (takes : Bool) (r : Result Request E) (a : Option (List ℕ))
+    (bytes : List ℕ) (headers : List HeaderSpan) (spans : RequestSpans)
     → IsTargetAt bytes spans (Some Commands)
     → IsByItsMethod bytes spans Commands true
     → IfOk r (λ request. IfSome a (λ rest. asked_of request
-    ≡ sent (length_by (map (header_bytes bytes) (take spans.headers headers)))
+    ≡ sent takes (length_by (map (header_bytes bytes) (take spans.headers headers)))
     (drop spans.len bytes ++ rest)))
     → IfOk r (λ request. IfSome a (λ rest.
-    AsksAtHead bytes headers spans rest (asked_of request)))
-asked_to_do (Err e) a bytes headers spans is own asks = tt
-asked_to_do (Ok request) None bytes headers spans is own asks = tt
-asked_to_do (Ok request) (Some rest) bytes headers spans is own asks =
-    asked_duly bytes headers spans rest Commands (asked_of request) is own (λ h at.
-    asks ∙ ap (λ fields. sent (length_by fields) (drop spans.len bytes ++ rest)) at.fields)
+    AsksAtHead takes bytes headers spans rest (asked_of request)))
+asked_to_do takes (Err e) a bytes headers spans is own asks = tt
+asked_to_do takes (Ok request) None bytes headers spans is own asks = tt
+asked_to_do takes (Ok request) (Some rest) bytes headers spans is own asks =
+    asked_duly takes bytes headers spans rest Commands (asked_of request) is own (λ h at.
+    asks ∙ ap (λ fields. sent takes (length_by fields) (drop spans.len bytes ++ rest)) at.fields)
 
 -- an input asks just one thing, since its head is one
-pub asks_one : (input : List ℕ) (a b : Asked) → Asks input a → Asks input b → a ≡ b
-asks_one input a b (inl x) (inl y) = x.0 ∙ sym y.0
-asks_one input a b (inl x) (inr y) = absurd (x.1 _ _ y.2)
-asks_one input a b (inr x) (inl y) = absurd (y.1 _ _ x.2)
-asks_one input a b (inr (h, body, has, is)) (inr (k, rest, too, so)) =
+pub asks_one : (takes : Bool) (input : List ℕ) (a b : Asked) → AsksWith takes input a
+    → AsksWith takes input b → a ≡ b
+asks_one takes input a b (inl x) (inl y) = x.0 ∙ sym y.0
+asks_one takes input a b (inl x) (inr y) = absurd (x.1 _ _ y.2)
+asks_one takes input a b (inr x) (inl y) = absurd (y.1 _ _ x.2)
+asks_one takes input a b (inr (h, body, has, is)) (inr (k, rest, too, so)) =
     let same = request_unique input h k body rest has.reads too.reads in
-    is ∙ ap (λ g. asked_by g body) same.0 ∙ ap (asked_by k) same.1 ∙ sym so
+    is ∙ ap (λ g. asked_by takes g body) same.0 ∙ ap (asked_by takes k) same.1 ∙ sym so

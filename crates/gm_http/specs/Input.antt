@@ -1,5 +1,5 @@
 -- What was read of an input.
-use Rattle.std.specs.Prelude.{◌≡◌, ◌≤◌, ℕ, List, ◌++◌, length, drop, Option}
+use Rattle.std.specs.Prelude.{◌≡◌, ◌≤◌, ℕ, Bool, List, ◌++◌, length, drop, Option}
 use Rattle.std.specs.Io.KnownBytes.{Consumes}
 use Rattle.httparse.specs.Grammar.{RequestHead, print_request}
 use Rattle.httparse.specs.Spans.{IsRequestAt, IsRequestWithin}
@@ -26,10 +26,12 @@ pub record IsHead
 abbrev pub HasNoHead : List ℕ → Type 0
 HasNoHead input = (h : RequestHead) (body : List ℕ) → HasHead input h body → ⊥
 
--- what a head asks that stands at the front of the bytes, with the rest after them
-abbrev pub AsksAtHead : List ℕ → List HeaderSpan → RequestSpans → List ℕ → Asked → Type 0
-AsksAtHead bytes headers spans rest asked = (h : RequestHead) → IsRequestAt bytes headers spans h
-    → asked ≡ asked_by h (drop spans.len bytes ++ rest)
+-- what a head asks that stands at the front of the bytes, with the rest after them, where `force`
+-- is taken or isn't
+abbrev pub AsksAtHead : Bool → List ℕ → List HeaderSpan → RequestSpans → List ℕ → Asked → Type 0
+AsksAtHead takes bytes headers spans rest asked = (h : RequestHead)
+    → IsRequestAt bytes headers spans h
+    → asked ≡ asked_by takes h (drop spans.len bytes ++ rest)
 
 -- at most so many bytes were taken from the front of an input
 pub record TakesUpTo (most : ℕ) (old new : Option (List ℕ)) : Type 0 where

@@ -1,26 +1,27 @@
-//! The call that the body of a request holds.
+//! The call that the body of a request holds, and whether it is forced.
 
 ghost use Rattle.std.specs.Prelude.{◌≡◌, IfOk, map, option_map, string_bytes};
 ghost use Rattle.serde_json.specs.View.{items_view, view};
-ghost use Rattle.gm_http.specs.Bodies.{call_in, call_of, has_two, key_in, texts_in, texts_of, words_in};
+ghost use Rattle.gm_http.specs.Bodies.{call_by, call_in, call_of, force_in, forced_in, has_count, key_in, texts_in, texts_of, words_in};
 
 use serde_json::Value;
 use std::alloc::{AllocError, Global};
 use std::str;
 
-/// A key and the words of a command.
+/// A key and the words of a command, and whether it is forced.
 #[derive(Drop)]
 pub(crate) struct Call {
     pub(crate) key: String,
     pub(crate) words: Vec<String>,
+    pub(crate) forced: bool,
 }
 
-#[tactic(auto, using(crate::proofs::Members::count_of), unfolding(crate::specs::Bodies::has_two))]
-fn has_two(value: &Value) -> bool
-    ensures { result ≡ has_two (view value.now) }
+#[tactic(auto, using(crate::proofs::Members::count_of), unfolding(crate::specs::Bodies::has_count))]
+fn has_count(value: &Value, count: usize) -> bool
+    ensures { result ≡ has_count count (view value.now) }
 {
     match value.as_object() {
-        Some(members) => members.len() == 2,
+        Some(members) => members.len() == count,
         None => false,
     }
 }
@@ -58,13 +59,30 @@ fn words_in(alloc: Global, value: &Value) -> Result<Option<Vec<String>>, AllocEr
     }
 }
 
-#[tactic(auto, unfolding(crate::specs::Bodies::call_in))]
-fn call_in(alloc: Global, value: &Value) -> Result<Option<Call>, AllocError>
-    ensures { IfOk result (λ found. option_map texts_in found ≡ call_in (view value.now)) }
+#[tactic(auto, unfolding(crate::specs::Bodies::force_in))]
+fn force_in(value: &Value) -> Option<bool>
+    ensures { result ≡ force_in (view value.now) }
 {
-    if !has_two(value) {
-        return Ok(None);
+    value.get("force")?.as_bool()
+}
+
+#[tactic(auto, unfolding(crate::specs::Bodies::forced_in))]
+fn forced_in(value: &Value, takes_force: bool) -> Option<bool>
+    ensures { result ≡ forced_in takes_force (view value.now) }
+{
+    if has_count(value, 2) {
+        return Some(false);
     }
+    if takes_force && has_count(value, 3) {
+        return force_in(value);
+    }
+    None
+}
+
+#[tactic(auto, unfolding(crate::specs::Bodies::call_by))]
+fn call_by(alloc: Global, value: &Value, forced: bool) -> Result<Option<Call>, AllocError>
+    ensures { IfOk result (λ found. option_map texts_in found ≡ call_by (view value.now) forced) }
+{
     let Some(key) = key_in(value) else {
         return Ok(None);
     };
@@ -72,20 +90,36 @@ fn call_in(alloc: Global, value: &Value) -> Result<Option<Call>, AllocError>
         return Ok(None);
     };
     let key = String::from_str(alloc, key)?;
-    Ok(Some(Call { key, words }))
+    Ok(Some(Call { key, words, forced }))
+}
+
+#[tactic(auto, unfolding(crate::specs::Bodies::call_in))]
+fn call_in(alloc: Global, value: &Value, takes_force: bool) -> Result<Option<Call>, AllocError>
+    ensures { IfOk result (λ found. option_map texts_in found
+        ≡ call_in takes_force (view value.now)) }
+{
+    match forced_in(value, takes_force) {
+        Some(forced) => call_by(alloc, value, forced),
+        None => Ok(None),
+    }
 }
 
 /// The call that a body holds; `None` if it isn't in UTF-8, JSON and an object of just the
-/// members `key`, a string, and `words`, an array of strings.
+/// members `key`, a string, and `words`, an array of strings. If `force` is taken, that may be a
+/// member too, `true` or `false`.
 #[tactic(auto, unfolding(crate::specs::Bodies::call_of))]
-pub(crate) fn call_of(alloc: Global, bytes: &[u8]) -> Result<Option<Call>, AllocError>
-    ensures { IfOk result (λ found. option_map texts_in found ≡ call_of bytes.now) }
+pub(crate) fn call_of(
+    alloc: Global,
+    bytes: &[u8],
+    takes_force: bool,
+) -> Result<Option<Call>, AllocError>
+    ensures { IfOk result (λ found. option_map texts_in found ≡ call_of takes_force bytes.now) }
 {
     let Ok(text) = str::from_utf8(bytes) else {
         return Ok(None);
     };
     match Value::from_str(alloc, text) {
-        Ok(value) => call_in(alloc, &value),
+        Ok(value) => call_in(alloc, &value, takes_force),
         Err(e) if e.is_memory() => Err(AllocError),
         Err(_) => Ok(None),
     }

@@ -1,14 +1,15 @@
 //! What holds of all requests: laws, each the contract of a function that does nothing.
 
-ghost use Rattle.std.specs.Prelude.{◌≡◌, ◌++◌, ℕ, List, IsTrue, Some, codes};
+ghost use Rattle.std.specs.Prelude.{◌≡◌, ◌++◌, ℕ, Bool, List, IsTrue, Some, codes};
 ghost use Rattle.gm_metadata.specs.Labels.{is_label};
 ghost use Rattle.gm_http.specs.declared.routes.Target.TheVariants as target;
-ghost use Rattle.gm_http.specs.Requests.{Asked, Asks};
+ghost use Rattle.gm_http.specs.Requests.{Asked, AsksWith};
 ghost use Rattle.gm_http.specs.Routes.{target_of};
 
 /// An input asks just one thing.
 pub fn one_request()
-    ensures { (input : List ℕ) (a b : Asked) → Asks input a → Asks input b → a ≡ b }
+    ensures { (takes : Bool) (input : List ℕ) (a b : Asked)
+        → AsksWith takes input a → AsksWith takes input b → a ≡ b }
 {}
 
 /// The targets that name something: just these are of mirrors and of providers.

@@ -23,7 +23,9 @@ mod status;
 
 pub use laws::{one_request, targets};
 pub use peer::Peer;
-pub use request::{Received, Request, RequestFault, read_request, receive_request};
+pub use request::{
+    Received, Request, RequestFault, read_request, receive_forcible, receive_request,
+};
 pub use responses::response;
 pub use sender::Sender;
 pub use status::{Allowed, Status};

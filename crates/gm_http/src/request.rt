@@ -6,7 +6,7 @@ ghost use Rattle.httparse.specs.Spans.{IsHeaderWithin, IsWithin, header_bytes, s
 ghost use Rattle.gm_http.specs.Fields.{length_by};
 ghost use Rattle.gm_http.specs.Input.{AsksAtHead, IsHead, Takes, TakesUpTo};
 ghost use Rattle.gm_http.specs.Peers.{ReadsUnlessFailed};
-ghost use Rattle.gm_http.specs.Requests.{Asks, asked_of, sent};
+ghost use Rattle.gm_http.specs.Requests.{Asks, AsksWith, asked_of, sent};
 ghost use Rattle.gm_http.specs.Responses.{method_name};
 ghost use Rattle.gm_http.specs.Routes.{target_of};
 ghost use Rattle.gm_http.specs.Senders.{Sends};
@@ -50,6 +50,8 @@ pub enum Request {
         /// The key that it is handed in under.
         key: String,
         words: Vec<String>,
+        /// Whether it is to be carried out whatever is lost by it.
+        forced: bool,
     },
 }
 
@@ -105,11 +107,13 @@ fn read_call<R: Read>(
     bytes: &mut Vec<u8>,
     headers: &[HeaderSpan],
     start: usize,
+    takes_force: bool,
 ) -> Result<Request, RequestFault>
     requires within { All (IsHeaderWithin (length bytes.old.items)) headers.now }
     requires start { start ≤ length bytes.old.items }
     ensures asks { IfOk result (λ request. IfSome (R.remaining peer.old.reader) (λ rest.
-        asked_of request ≡ sent (length_by (map (header_bytes bytes.old.items) headers.now))
+        asked_of request ≡ sent takes_force
+        (length_by (map (header_bytes bytes.old.items) headers.now))
         (drop start bytes.old.items ++ rest))) }
     ensures takes { OnOk result (Takes (R.remaining peer.old.reader)
         (R.remaining peer.new.reader) bytes.old.items bytes.new.items) }
@@ -128,10 +132,11 @@ fn read_call<R: Read>(
     if bytes.len() < end {
         return Ok(Request::BadRequest);
     }
-    match call_of(alloc, &bytes[start..end])? {
+    match call_of(alloc, &bytes[start..end], takes_force)? {
         Some(call) => Ok(Request::Command {
             key: call.key,
             words: call.words,
+            forced: call.forced,
         }),
         None => Ok(Request::BadRequest),
     }
@@ -144,10 +149,11 @@ fn read_rest<R: Read>(
     bytes: &mut Vec<u8>,
     headers: &[HeaderSpan; MOST_FIELDS],
     spans: &RequestSpans,
+    takes_force: bool,
 ) -> Result<Request, RequestFault>
     requires { IsHead bytes.old.items headers.now spans.now }
     ensures asks { IfOk result (λ request. IfSome (R.remaining peer.old.reader) (λ rest.
-        AsksAtHead bytes.old.items headers.now spans.now rest (asked_of request))) }
+        AsksAtHead takes_force bytes.old.items headers.now spans.now rest (asked_of request))) }
     ensures takes { OnOk result (Takes (R.remaining peer.old.reader)
         (R.remaining peer.new.reader) bytes.old.items bytes.new.items) }
     ensures most { OnOk result
@@ -165,7 +171,10 @@ fn read_rest<R: Read>(
         Target::Status => Ok(Request::Status),
         Target::Mirror(name) => Ok(Request::Mirror(*name)),
         Target::Metadata(name) => Ok(Request::Metadata(*name)),
-        Target::Commands => { read_call(alloc, peer, bytes, &headers[..spans.headers], spans.len) }
+        Target::Commands => {
+            let fields = &headers[..spans.headers];
+            read_call(alloc, peer, bytes, fields, spans.len, takes_force)
+        }
     }
 }
 
@@ -177,12 +186,15 @@ pub struct Received {
 }
 
 #[tactic(auto, using(crate::proofs::Senders::sendings))]
-/// Reads one request, and says who sent it. A request that is answered without its body isn't read
-/// to its end, and none waits for a byte past it; what the reader gives beyond is ignored. Fails
-/// if the reader does, or for want of memory. Bytes that are no request were sent by a program.
-pub fn receive_request<R: Read>(alloc: Global, peer: &mut Peer<R>) -> Result<Received, RequestFault>
+/// Reads one request as `receive_request` does. If `force` is taken, the body of a command may have
+/// it for a member.
+pub fn receive_forcible<R: Read>(
+    alloc: Global,
+    peer: &mut Peer<R>,
+    takes_force: bool,
+) -> Result<Received, RequestFault>
     ensures asks { IfOk result (λ received. IfSome (R.remaining peer.old.reader) (λ input.
-        Asks input (asked_of received.request))) }
+        AsksWith takes_force input (asked_of received.request))) }
     ensures sends { IfOk result (λ received. IfSome (R.remaining peer.old.reader) (λ input.
         Sends input received.sender)) }
     ensures front { OnOk result (TakesUpTo (8192 + 131072) (R.remaining peer.old.reader)
@@ -198,8 +210,23 @@ pub fn receive_request<R: Read>(alloc: Global, peer: &mut Peer<R>) -> Result<Rec
         });
     };
     let sender = sender_of(&bytes, &headers[..spans.headers]);
-    let request = read_rest(alloc, peer, &mut bytes, &headers, &spans)?;
+    let request = read_rest(alloc, peer, &mut bytes, &headers, &spans, takes_force)?;
     Ok(Received { request, sender })
+}
+
+/// Reads one request, and says who sent it. A request that is answered without its body isn't read
+/// to its end, and none waits for a byte past it; what the reader gives beyond is ignored. Fails
+/// if the reader does, or for want of memory. Bytes that are no request were sent by a program.
+pub fn receive_request<R: Read>(alloc: Global, peer: &mut Peer<R>) -> Result<Received, RequestFault>
+    ensures asks { IfOk result (λ received. IfSome (R.remaining peer.old.reader) (λ input.
+        Asks input (asked_of received.request))) }
+    ensures sends { IfOk result (λ received. IfSome (R.remaining peer.old.reader) (λ input.
+        Sends input received.sender)) }
+    ensures front { OnOk result (TakesUpTo (8192 + 131072) (R.remaining peer.old.reader)
+        (R.remaining peer.new.reader)) }
+    ensures read { ReadsUnlessFailed peer.new result }
+{
+    receive_forcible(alloc, peer, false)
 }
 
 /// Reads one request, as `receive_request` does, whoever sent it.

@@ -6,7 +6,7 @@
 //! pending as JSON, and `comparing.rt` compares data.
 //! `checking.rt` looks at all of it at once, and `checked.rt` tells what was found
 //! (`specs/Checks.antt`). `flaws.rt` has the lines of data that differ. `blocked.rt` says what
-//! waits for an image that fails.
+//! waits for an image that fails, and `strange.rt` which images no stop leaves as they are.
 #![tactic(auto)]
 
 mod blocked;
@@ -16,10 +16,12 @@ mod comparing;
 mod flaws;
 mod pending;
 mod read_only;
+mod strange;
 mod taste;
 
 pub use blocked::way_on;
 pub use checking::{check_place, check_shelf};
 pub use comparing::scrub;
 pub use read_only::{complain_of_pending, look_at, show_pending, show_pending_at};
+pub use strange::{Strange, strange_on, strange_way_on};
 pub use taste::taste_folder;

@@ -1,12 +1,16 @@
 //! What is pending, as JSON: an object for each write, with the words that its line has.
 
+use crate::strange::{Strange, strange_on};
 use gm_faults::Fault;
 use gm_looks::{Standing, standing_of_cleared, standing_of_named};
 use gm_metadata::Label;
 use gm_process::Status;
+use gm_registry::Loaded;
 use gm_reports::{Report, as_line};
 use gm_shelf::{Shelf, ShelfFault};
 use gm_state::{Intent, State};
+use gm_stopped::Stopped;
+use gm_unlike::told_standing;
 use serde_json::{Map, Value, json, put};
 use std::alloc::{AllocError, Global};
 
@@ -137,9 +141,8 @@ fn images_of<H: Shelf>(
     Ok(images)
 }
 
-// The report of these writes.
-fn report_of(alloc: Global, writes: Vec<Value>) -> Result<Report, AllocError> {
-    let value = json!(in alloc; {"pending": writes})?;
+// The report of this.
+fn report_of(alloc: Global, value: Value) -> Result<Report, AllocError> {
     Ok(Report {
         status: Status::Done,
         text: as_line(value.to_string(alloc)?)?,
@@ -172,16 +175,32 @@ fn writes_on<H: Shelf>(
 /// What is pending, without the images.
 pub(crate) fn pending_as_json(alloc: Global, intents: &[Intent]) -> Result<Report, Fault> {
     let writes = writes_of(alloc, intents)?;
-    Ok(report_of(alloc, writes)?)
+    Ok(report_of(alloc, json!(in alloc; {"pending": writes})?)?)
 }
 
-/// What is pending, and how the images stand to that.
+// The images that no stop leaves so, with the words of how they stand.
+fn strange_values(alloc: Global, list: &[Strange]) -> Result<Vec<Value>, AllocError> {
+    let mut values = Vec::new(alloc);
+    for strange in list {
+        let (image, standing) = (strange.image.as_str(), told_standing(strange.standing));
+        values.push(json!(in alloc; {"image": image, "standing": standing})?)?;
+    }
+    Ok(values)
+}
+
+/// What is pending, how the images stand to that, and which of them no stop leaves so.
 pub(crate) fn pending_as_json_on<H: Shelf>(
     alloc: Global,
-    state: &State,
-    intents: &[Intent],
+    records: &Loaded,
+    stopped: &Stopped,
     shelf: &mut H,
 ) -> Result<Report, Fault> {
+    let (state, intents) = (&records.state, records.intents.as_slice());
     let writes = writes_on(alloc, state, intents, shelf)?;
-    Ok(report_of(alloc, writes)?)
+    let list = strange_on(alloc, state, intents, stopped, shelf)?;
+    let strange = strange_values(alloc, &list)?;
+    Ok(report_of(
+        alloc,
+        json!(in alloc; {"pending": writes, "strange": strange})?,
+    )?)
 }

@@ -8,6 +8,7 @@ ghost use Rattle.gm_looking.specs.Looks.{MayShow};
 
 use crate::checked::push_pending;
 use crate::pending::{pending_as_json, pending_as_json_on};
+use crate::strange::{strange_lines, strange_on};
 use gm_command_line::{Form, Look};
 use gm_faults::Fault;
 use gm_looks::{audit_shelf, pending_text, pending_text_on};
@@ -19,6 +20,7 @@ use gm_registry_files::{
 use gm_reports::{Report, audit_report, list_report, status_report};
 use gm_shelf::{FileShelf, Shelf};
 use gm_state::Intent;
+use gm_stopped::Stopped;
 use std::alloc::Global;
 use std::io::Write;
 
@@ -32,15 +34,19 @@ fn pending_report(alloc: Global, intents: &[Intent]) -> Result<Report, Fault>
     })
 }
 
-// What is pending, and how the images stand to that.
+// What is pending, how the images stand to that, and which of them no stop leaves so.
 fn pending_report_on<H: Shelf>(
     alloc: Global,
     records: &Loaded,
+    stopped: &Stopped,
     shelf: &mut H,
 ) -> Result<Report, Fault> {
+    let mut text = pending_text_on(alloc, &records.state, &records.intents, shelf)?;
+    let strange = strange_on(alloc, &records.state, &records.intents, stopped, shelf)?;
+    text.push_str(&strange_lines(alloc, &strange)?)?;
     Ok(Report {
         status: Status::Done,
-        text: pending_text_on(alloc, &records.state, &records.intents, shelf)?,
+        text,
     })
 }
 
@@ -149,13 +155,12 @@ pub fn show_pending_at<I, O: Write, E>(
     streams: &mut Streams<'_, I, O, E>,
 ) -> Result<Status, Fault> {
     let _held = hold(rt, place.folder, patience, streams)?;
-    let records = records_at(rt, place.registry, patience, streams)?.loaded;
+    let whole = records_at(rt, place.registry, patience, streams)?;
+    let (records, stopped) = (&whole.loaded, &whole.stopped);
     let mut shelf = images_at(rt, place, streams)?;
     let report = match form {
-        Form::Text => pending_report_on(rt.alloc(), &records, &mut shelf),
-        Form::Json => {
-            pending_as_json_on(rt.alloc(), &records.state, &records.intents, &mut shelf)
-        }
+        Form::Text => pending_report_on(rt.alloc(), records, stopped, &mut shelf),
+        Form::Json => pending_as_json_on(rt.alloc(), records, stopped, &mut shelf),
     };
     streams.explaining.failure = shelf.last_failure();
     let report = report?;

@@ -1,6 +1,6 @@
 -- What is lost of an image that can be taken into a mirror.
-use Rattle.gm_losses.proofs.Common.{◌≡◌, ◌∙◌, ◌⊎◌, inl, inr, ⊎_elim, ℕ, ◌-◌, true, false, refl, sym, ap, subst, List, [], ◌∷◌, Option, Some, None, option_to_list, cases_Bool, Image, Sizes, zeros, Has, not_both, differ, same_from, Records, some_other, IsFirstData, IsFree, IsFreeImage, TellsLost, is_blank, is_database, lost_of, AreJust, LosesData, LosesDatabase, LosesLastSector, goes_before, FreeImage, Loss, LastSector, Database, Data, Intact, Left, Whole, OnlyCopy}
-use Rattle.gm_losses.specs.declared.loss.Loss.TheVariants.{Mirror}
+use Rattle.gm_losses.proofs.Common.{◌≡◌, ◌∙◌, ◌⊎◌, inl, inr, ⊎_elim, ℕ, ◌-◌, true, false, refl, sym, ap, subst, List, [], ◌∷◌, Option, Some, None, option_to_list, cases_Bool, Image, Sizes, zeros, Has, not_both, differ, same_from, Records, some_other, IsFirstData, IsFree, IsFreeImage, TellsLost, is_blank, is_database, lost_of, AreJust, LosesData, LosesDatabase, LosesLastSector, goes_before, FreeImage, Loss, LastSector, Database, Data, Intact, Left, Whole, OnlyCopy, Differs}
+use Rattle.gm_losses.specs.declared.loss.Loss.TheVariants.{Member, Mirror}
 use Rattle.gm_losses.proofs.FirstData.{one_first, tells_same}
 use Rattle.gm_losses.proofs.Listed.{none_lost, one_lost}
 
@@ -18,6 +18,8 @@ lost_same p f g image (Some (Data q place)) same h = (
 lost_same p f g image (Some (Intact q)) same h = h
 lost_same p f g image (Some (Left q newer)) same h = h
 lost_same p f g image (Some (Whole q)) same h = h
+lost_same p f g image (Some (Differs q n k)) same h = h
+lost_same p f g image (Some (Member q name)) same h = h
 lost_same p f g image (Some (OnlyCopy q)) same h = h
 lost_same p f g image (Some (Mirror n)) same h = h
 
@@ -133,5 +135,7 @@ module _ (s : Records) (size : Sizes) (seen : Image) (p : List ℕ) where
     inserted (Some (Intact q)) h = absurd h
     inserted (Some (Left q newer)) h = absurd h
     inserted (Some (Whole q)) h = absurd h
+    inserted (Some (Differs q n k)) h = absurd h
+    inserted (Some (Member q name)) h = absurd h
     inserted (Some (OnlyCopy q)) h = absurd h
     inserted (Some (Mirror n)) h = absurd h

@@ -1,12 +1,14 @@
--- Which images are left of a mirror that is adopted, and which are whole beside its source.
-use Rattle.gm_losses.proofs.Common.{◌≡◌, ◌∙◌, ◌↔◌, ◌⊎◌, ◌==◌, inl, inr, ⊎_elim, eq-eqb, eqb-true, list_any, ℕ, ◌<◌, ◌||◌, ◌&&◌, not, nat_lt, Bool, true, false, refl, sym, ap, subst, arith, List, filter, find, Option, Some, None, Ok, list_all, and_from, and_parts, cases_Bool, lt-ltb, ltb-true, or_parts, Image, Sizes, same_label, Has, any_from, found, found_none, not_both, some_any, AscendsBy-filter_map, Has-filter, Has-filter_map, filter-Has, filter_map-Has, same_from, same_is, Group, behind, state_of, IsMember, IsTasted, SaysOf, verdict, last_of, Records, AreShown, IsShown, some_other, has_member, is_adopted, is_broken, is_named, is_newest, is_no_loss, is_torn, is_whole_beside, is_whole_with, is_dirty_beside, left_among, left_as, left_of, sources_among, AreOfMirror, IsBroken, IsLeft, IsOfMirror, IsTorn, IsWholeBeside, Says, is_newer, is_whole, AreJust, LosesAdopted, LosesLeft, LosesWhole, provider_of, Loss, Left, Whole}
+-- Which images are left of a mirror that is adopted, which are whole beside its source, and which
+-- have other data.
+use Rattle.gm_losses.proofs.Common.{◌≡◌, ◌∙◌, ◌↔◌, ◌⊎◌, ◌==◌, inl, inr, eq-eqb, eqb-true, list_any, ℕ, ◌<◌, ◌||◌, ◌&&◌, not, nat_lt, Bool, true, false, refl, sym, ap, subst, arith, List, filter, find, Option, Some, None, Ok, list_all, and_from, and_parts, cases_Bool, lt-ltb, ltb-true, or_parts, Image, Sizes, same_label, Has, any_from, found, found_none, not_both, some_any, AscendsBy-filter_map, Has-filter, Has-filter_map, filter-Has, filter_map-Has, same_from, same_is, Group, behind, state_of, IsMember, IsTasted, SaysOf, verdict, last_of, Records, AreShown, IsShown, some_other, has_member, is_adopted, is_broken, is_named, is_newest, is_no_loss, is_torn, is_whole_beside, is_whole_with, is_dirty_beside, is_active_of, active_of, is_compared, beside_source, beside_first, differing_as, adopted_as, adopted_of, adopted_among, count_differing, first_differing, reach_of, data_of, difference_as, left_as, sources_among, AreOfMirror, IsBroken, IsLeft, IsOfMirror, IsTorn, IsWholeBeside, Says, is_newer, is_whole, IsUnlikeSource, Difference, AreJust, LosesAdopted, provider_of, Loss, Differs, Left, Whole}
 use Rattle.gm_metadata.specs.declared.metadata.Metadata.{Metadata}
 use Rattle.gm_lists.proofs.Sorting.{all_has, has_all}
 use Rattle.gm_taste.specs.declared.provider.Provider.{Provider}
 use Rattle.gm_taste.specs.declared.tasted.Member.{Member}
 use Rattle.gm_taste.specs.declared.tasted.Tasted.{Tasted}
+use Rattle.gm_losses.proofs.DifferingFound.{first_told, is_difference, some_told, told_as, told_first, told_some}
 use Rattle.gm_losses.proofs.Listed.{in_order, none_lost}
-use Rattle.gm_losses.proofs.SourceFound.{source_tells, tells_source}
+use Rattle.gm_losses.proofs.SourceFound.{active_tells, one_source, source_tells, tells_active, tells_source}
 
 -- ---- whether a member is BROKEN
 
@@ -436,6 +438,119 @@ module _ (size : Sizes) (seen : Image) where
           left_is = rw (unlike_whole, unnamed, unbroken, untorn)
               (ap (λ (b : Bool). Some (Left p b)) as_new)
 
+        -- ---- which members have other data than the source
+
+        -- what is told of one, if that is
+        differing_told : (y : Member) (x : Loss) → Has g.members.items y
+            → differing_as size seen g.members.items ps sources y ≡ Some x
+            → (sectors : ℕ) × (first : ℕ) × (x ≡ Differs y.provider sectors first)
+            × IsUnlikeSource size seen name ps y.provider sectors first
+        differing_told y x h e = elim (cases_Bool (is_compared g.members.items ps y)) [
+          | inl on ↦ compared on (rw on at e)
+          | inr off ↦ (let none : None ≡ Some x = rw off at e in
+              absurd (let never : ⊥ = cc in never))
+        ]
+          where
+            compared : is_compared g.members.items ps y ≡ true
+                → beside_first size seen sources y ≡ Some x
+                → (sectors : ℕ) × (first : ℕ) × (x ≡ Differs y.provider sectors first)
+                × IsUnlikeSource size seen name ps y.provider sectors first
+            compared on told =
+                let on_both = and_parts (is_named ps y) (is_active_of named y) on in
+                let b = first_told size seen sources y x told in
+                let n = reach_of size b.0.provider y.provider (data_of b.0.metadata) in
+                let one = seen b.0.provider in
+                let other = seen y.provider in
+                let some = some_told y.provider (count_differing one other n)
+                (first_differing one other n) x b.2 in (
+                  count_differing one other n,
+                  first_differing one other n,
+                  some.1,
+                  record {
+                    mid = y.metadata.mid;
+                    named = are_of_mirror y h;
+                    metadata = y.metadata;
+                    active = active_tells size seen ps named named_there all_named y
+                        (filter-Has (is_active_of named) named y
+                        (filter-Has (is_named ps) g.members.items y h on_both.0) on_both.1);
+                    source = b.0.provider;
+                    said = b.0.metadata;
+                    source_is = source_tells size seen ps named named_there all_named b.0 b.1;
+                    some = some.0;
+                    by = is_difference one other n;
+                  },
+                )
+
+        -- an image that has other data is a member of which that is told
+        module _ (p : List ℕ) (sectors first : ℕ)
+            (u : IsUnlikeSource size seen name ps p sectors first)
+            (apart : IsWholeBeside size seen name ps p → ⊥) where
+          found_one : (x : Member) × Has (active_of named) x × (x.provider ≡ p)
+              × (x.metadata ≡ u.metadata)
+          found_one = tells_active size seen ps named named_there all_named p u.metadata u.active
+
+          abbrev unlike_one : Member
+          unlike_one = found_one.0
+
+          is_found : Has named unlike_one × (is_active_of named unlike_one ≡ true)
+          is_found = Has-filter (is_active_of named) named unlike_one found_one.1
+
+          unlike_in : Has g.members.items unlike_one
+          unlike_in = (Has-filter (is_named ps) g.members.items unlike_one is_found.0).0
+
+          is_one_named : is_named ps unlike_one ≡ true
+          is_one_named = (Has-filter (is_named ps) g.members.items unlike_one is_found.0).1
+
+          not_as_whole : is_whole_beside sources unlike_one ≡ false
+          not_as_whole = elim (cases_Bool (is_whole_beside sources unlike_one)) [
+            | inl e ↦ absurd (apart (subst (IsWholeBeside size seen name ps) found_one.2
+                (whole_told unlike_one unlike_in e)))
+            | inr e ↦ e
+          ]
+
+          abbrev reach : ℕ
+          reach = reach_of size u.source p (data_of u.said)
+
+          -- beside each source it is told as it differs
+          each_tells : (c : Member) → Has sources c
+              → beside_source size seen c unlike_one ≡ Some (Differs p sectors first)
+          each_tells c h =
+              let theirs = source_tells size seen ps named named_there all_named c h in
+              let at : c.provider ≡ u.source =
+              one_source size seen ps c.provider u.source c.metadata u.said theirs u.source_is in
+              let says : c.metadata ≡ u.said =
+              says_once u.source c.metadata u.said
+              (subst (λ (q : List ℕ). Says size seen q c.metadata) at theirs.active.says)
+              u.source_is.active.says in
+              let d : Difference = record { sectors = sectors; first = first } in
+              let as_told : difference_as p sectors first
+              ≡ difference_as p (count_differing (seen u.source) (seen p) reach)
+              (first_differing (seen u.source) (seen p) reach) =
+              told_as (seen u.source) (seen p) p reach d u.by in
+              beside c.provider c.metadata unlike_one.provider at says found_one.2
+              ∙ (sym as_told ∙ told_some p sectors first u.some)
+            where
+              beside : (q : List ℕ) (m : Metadata) (r : List ℕ) → q ≡ u.source → m ≡ u.said
+                  → r ≡ p → difference_as r (count_differing (seen q) (seen r)
+                  (reach_of size q r (data_of m))) (first_differing (seen q) (seen r)
+                  (reach_of size q r (data_of m)))
+                  ≡ difference_as p (count_differing (seen u.source) (seen p) reach)
+                  (first_differing (seen u.source) (seen p) reach)
+              beside q m r e f i = rw (e, f, i) refl
+
+          differing_is : adopted_as size seen g.members.items ps sources unlike_one
+              ≡ Some (Differs p sectors first)
+          differing_is =
+              let source = tells_source size seen ps named named_there all_named u.source u.said
+              u.source_is in
+              let on : is_compared g.members.items ps unlike_one ≡ true =
+              and_from (is_named ps unlike_one) (is_active_of named unlike_one) is_one_named
+              is_found.1 in
+              let none : left_as g.members.items ps sources unlike_one ≡ None =
+              rw (not_as_whole, is_one_named) refl in
+              rw (none, on) (told_first size seen sources unlike_one source.0
+              (Some (Differs p sectors first)) source.1 each_tells)
+
         -- ---- what is told of the group
 
         module _ (s : Records) where
@@ -445,21 +560,23 @@ module _ (size : Sizes) (seen : Image) where
           -- what is told of a member, and why
           abbrev Told : Member → Loss → Type 0
           Told y x = ((is_whole_beside sources y ≡ true) × (x ≡ Whole y.provider))
-              ⊎ ((is_whole_beside sources y ≡ false) × (is_no_loss g.members.items ps y ≡ false)
+              ⊎ (((is_whole_beside sources y ≡ false)
+              × (is_no_loss g.members.items ps y ≡ false)
               × (x ≡ Left y.provider (is_newest g.members.items ps y)))
+              ⊎ ((is_whole_beside sources y ≡ false)
+              × (differing_as size seen g.members.items ps sources y ≡ Some x)))
 
-          told_of : (y : Member) (x : Loss) → left_as g.members.items ps sources y ≡ Some x
-              → Told y x
+          told_of : (y : Member) (x : Loss)
+              → adopted_as size seen g.members.items ps sources y ≡ Some x → Told y x
           told_of y x e = elim (cases_Bool (is_whole_beside sources y)) [
             | inl whole ↦ (let some : Some (Whole y.provider) ≡ Some x = rw whole at e in
                 let is : x ≡ Whole y.provider = cc in inl (whole, is))
             | inr other ↦ elim (cases_Bool (is_no_loss g.members.items ps y)) [
-              | inl out ↦ (let none : None ≡ Some x = rw (other, out) at e in
-                  absurd (let never : ⊥ = cc in never))
+              | inl out ↦ inr (inr (other, rw (other, out) at e))
               | inr lost ↦ (let some : Some (Left y.provider (is_newest g.members.items ps y))
                   ≡ Some x = rw (other, lost) at e in
                   let is : x ≡ Left y.provider (is_newest g.members.items ps y) = cc in
-                  inr (other, lost, is))
+                  inr (inl (other, lost, is)))
             ]
           ]
 
@@ -478,48 +595,75 @@ module _ (size : Sizes) (seen : Image) where
               b.metadata.dflags.dirty && (b.metadata.genid == m.genid)) sources ≡ true)
               same whole) e
 
-          told_one : (x : Loss) → Has (left_of ps (Some g)) x → IsOne x
+          told_one : (x : Loss) → Has (adopted_of size seen ps (Some g)) x → IsOne x
           told_one x h =
-              let from = Has-filter_map (left_as g.members.items ps sources) g.members.items x h in
+              let from = Has-filter_map (adopted_as size seen g.members.items ps sources)
+              g.members.items x h in
               let y = from.0 in
               elim (told_of y x from.2) [
                 | inl t ↦ inl (y.provider, t.1, whole_told y from.1 t.0)
-                | inr t ↦ inr (
+                | inr (inl t) ↦ inr (inl (
                   y.provider,
                   is_newest g.members.items ps y,
                   t.2,
                   left_told y from.1 t.1,
                   not_whole y from.1 t.0,
-                )
+                ))
+                | inr (inr t) ↦ (let d = differing_told y x from.1 t.1 in
+                    inr (inr (y.provider, d.0, d.1, d.2, d.3, not_whole y from.1 t.0)))
               ]
 
           one_told : (q : List ℕ) → Has ps q → (x : Loss) → IsOne x
-              → Has (left_of ps (Some g)) x
+              → Has (adopted_of size seen ps (Some g)) x
           one_told q first x (inl w) =
-              subst (Has (left_of ps (Some g))) (sym w.1)
-              (filter_map-Has (left_as g.members.items ps sources) g.members.items
+              subst (Has (adopted_of size seen ps (Some g))) (sym w.1)
+              (filter_map-Has (adopted_as size seen g.members.items ps sources) g.members.items
               (whole_one q first w.0 w.2) (Whole w.0)
-              (is_in q first w.0 w.2.metadata w.2.of w.2.named) (whole_as_is q first w.0 w.2))
-          one_told q first x (inr h) =
-              subst (Has (left_of ps (Some g))) (sym h.2)
-              (filter_map-Has (left_as g.members.items ps sources) g.members.items
+              (is_in q first w.0 w.2.metadata w.2.of w.2.named)
+              (rw (whole_as_is q first w.0 w.2) refl))
+          one_told q first x (inr (inl h)) =
+              subst (Has (adopted_of size seen ps (Some g))) (sym h.2)
+              (filter_map-Has (adopted_as size seen g.members.items ps sources) g.members.items
               (left_one q first h.0 h.1 h.3 h.4) (Left h.0 h.1) (left_in q first h.0 h.1 h.3 h.4)
-              (left_is q first h.0 h.1 h.3 h.4))
+              (rw (left_is q first h.0 h.1 h.3 h.4) refl))
+          one_told q first x (inr (inr h)) =
+              subst (Has (adopted_of size seen ps (Some g))) (sym h.3)
+              (filter_map-Has (adopted_as size seen g.members.items ps sources) g.members.items
+              (unlike_one h.0 h.1 h.2 h.4 h.5) (Differs h.0 h.1 h.2)
+              (unlike_in h.0 h.1 h.2 h.4 h.5) (differing_is h.0 h.1 h.2 h.4 h.5))
 
-          keeps_name : (y : Member) (x : Loss) → left_as g.members.items ps sources y ≡ Some x
+          -- what is told of a member names its provider
+          differing_name : (y : Member) (x : Loss)
+              → differing_as size seen g.members.items ps sources y ≡ Some x
+              → y.provider ≡ provider_of x
+          differing_name y x e = elim (cases_Bool (is_compared g.members.items ps y)) [
+            | inl on ↦ (let b = first_told size seen sources y x (rw on at e) in
+                let n = reach_of size b.0.provider y.provider (data_of b.0.metadata) in
+                sym (ap provider_of (some_told y.provider
+                (count_differing (seen b.0.provider) (seen y.provider) n)
+                (first_differing (seen b.0.provider) (seen y.provider) n) x b.2).1))
+            | inr off ↦ (let none : None ≡ Some x = rw off at e in
+                absurd (let never : ⊥ = cc in never))
+          ]
+
+          keeps_name : (y : Member) (x : Loss)
+              → adopted_as size seen g.members.items ps sources y ≡ Some x
               → y.provider ≡ provider_of x
           keeps_name y x e = elim (told_of y x e) [
             | inl t ↦ sym (ap provider_of t.1)
-            | inr t ↦ sym (ap provider_of t.2)
+            | inr (inl t) ↦ sym (ap provider_of t.2)
+            | inr (inr t) ↦ differing_name y x t.1
           ]
 
-          pub group_lost : (q : List ℕ) → Has ps q → AreJust IsOne (left_of ps (Some g))
+          pub group_lost : (q : List ℕ) → Has ps q
+              → AreJust IsOne (adopted_of size seen ps (Some g))
           group_lost q first = record {
             told = told_one;
             others = one_told q first;
-            order = in_order (left_of ps (Some g))
-                (AscendsBy-filter_map (left_as g.members.items ps sources) (λ x. x.provider)
-                provider_of keeps_name g.members.items (tasted.groups_are g there).members_ascend);
+            order = in_order (adopted_of size seen ps (Some g))
+                (AscendsBy-filter_map (adopted_as size seen g.members.items ps sources)
+                (λ x. x.provider) provider_of keeps_name g.members.items
+                (tasted.groups_are g there).members_ascend);
           }
 
       -- the mirror of an image, of which all of these are, has a group, which is adopted
@@ -543,18 +687,30 @@ module _ (size : Sizes) (seen : Image) where
           (has_all (has_member g.members.items) ps has))
           (found_none (is_adopted name ps) t.groups.items none g group.1)
 
-      -- what is told of all groups is what is left or whole
-      pub left_lost : (s : Records) (q : List ℕ) → Has ps q
-          → AreJust (LosesAdopted s size seen name ps) (left_among t.groups.items name ps)
-      left_lost s q first = of_found (find (is_adopted name ps) t.groups.items) refl
+      -- an image that is named is one of the mirror that all of these are of
+      none_unlike : find (is_adopted name ps) t.groups.items ≡ None → (p : List ℕ)
+          (sectors first : ℕ) → IsUnlikeSource size seen name ps p sectors first → ⊥
+      none_unlike none p sectors first u =
+          let mine = u.named p u.active.named in
+          let mid : mine.0.mid ≡ u.mid = mine.1.mid_is in
+          none_left none p mine.0
+          (subst (λ (n : ℕ). IsOfMirror size seen name n p mine.0) (sym mid) mine.1)
+          (subst (λ (n : ℕ). AreOfMirror size seen name n ps) (sym mid) u.named)
+
+      -- what is told of all groups is what is left, or whole, or differs
+      pub adopted_lost : (s : Records) (q : List ℕ) → Has ps q
+          → AreJust (LosesAdopted s size seen name ps)
+          (adopted_among size seen t.groups.items name ps)
+      adopted_lost s q first = of_found (find (is_adopted name ps) t.groups.items) refl
         where
           none_lost_of : find (is_adopted name ps) t.groups.items ≡ None → (x : Loss)
               → LosesAdopted s size seen name ps x → ⊥
           none_lost_of e x (inl w) = none_left e w.0 w.2.metadata w.2.of w.2.named
-          none_lost_of e x (inr h) = none_left e h.0 h.3.metadata h.3.of h.3.named
+          none_lost_of e x (inr (inl h)) = none_left e h.0 h.3.metadata h.3.of h.3.named
+          none_lost_of e x (inr (inr h)) = none_unlike e h.0 h.1 h.2 h.4
 
           of_found : (o : Option Group) → find (is_adopted name ps) t.groups.items ≡ o
-              → AreJust (LosesAdopted s size seen name ps) (left_of ps o)
+              → AreJust (LosesAdopted s size seen name ps) (adopted_of size seen ps o)
           of_found None e = none_lost (LosesAdopted s size seen name ps) (none_lost_of e)
           of_found (Some g) e =
               let at = found (is_adopted name ps) t.groups.items g e in

@@ -1,7 +1,9 @@
 pub mod Common
+pub mod DifferingFound
 pub mod FirstData
 pub mod FreeLost
 pub mod IntactFound
 pub mod LeftFound
 pub mod Listed
 pub mod SourceFound
+pub mod Walked

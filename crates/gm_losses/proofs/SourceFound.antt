@@ -1,6 +1,7 @@
 -- Which of the images that are named is the source of their mirror.
-use Rattle.gm_losses.proofs.Common.{◌≡◌, ℕ, ◌&&◌, not, Bool, true, false, refl, subst, List, list_all, and_from, and_parts, Image, Sizes, Has, Has-filter, filter-Has, active_of, is_active_of, is_first_of, sources_of, is_in_use, is_newer, Says, IsActiveAmong, IsSourceAmong, goes_first}
+use Rattle.gm_losses.proofs.Common.{◌≡◌, ◌==◌, inl, inr, ℕ, ◌&&◌, not, nat_lt, Bool, true, false, refl, sym, subst, arith, List, list_all, and_from, and_parts, or_parts, cases_Bool, cases_lt, lt-ltb, eq-eqb, not_both, bytes_eq, same_is, label_lt, Image, Sizes, Has, Has-filter, filter-Has, active_of, is_active_of, is_first_of, sources_of, is_in_use, is_newer, Says, IsActiveAmong, IsSourceAmong, goes_first}
 use Rattle.gm_metadata.specs.declared.metadata.Metadata.{Metadata}
+use Rattle.gm_lists.proofs.Order.{lt_other}
 use Rattle.gm_lists.proofs.Sorting.{all_has, has_all}
 use Rattle.gm_taste.specs.declared.tasted.Member.{Member}
 
@@ -12,12 +13,49 @@ on : (b : Bool) → b ≡ false → not b ≡ true
 on false e = refl
 on true e = (let never : false ≡ true = cc in never)
 
+-- of two of which none goes before the other both are on one provider
+even : (a b : ℕ) → nat_lt a b ≡ false → nat_lt b a ≡ false → a ≡ b
+even a b e f = elim (cases_lt a b) [
+  | inl low ↦ absurd (not_both (nat_lt a b) (lt-ltb a b low) e)
+  | inr high ↦ elim (cases_lt b a) [
+    | inl low ↦ absurd (not_both (nat_lt b a) (lt-ltb b a low) f)
+    | inr few ↦ omega (arith, high, few)
+  ]
+]
+
+and_out : (b c : Bool) → b ≡ true → b && c ≡ false → c ≡ false
+and_out true c e f = f
+and_out false c e f = (let never : false ≡ true = e in cc)
+
+one_first : (p q : List ℕ) (d e : Metadata) → goes_first q e p d ≡ false
+    → goes_first p d q e ≡ false → p ≡ q
+one_first p q d e first second =
+    let a = or_parts (nat_lt d.priority e.priority)
+    (e.priority == d.priority && label_lt q p) first in
+    let b = or_parts (nat_lt e.priority d.priority)
+    (d.priority == e.priority && label_lt p q) second in
+    let same : d.priority ≡ e.priority = even d.priority e.priority a.0 b.0 in
+    let after : label_lt q p ≡ false = and_out (e.priority == d.priority) (label_lt q p)
+    (eq-eqb e.priority d.priority (sym same)) a.1 in
+    let before : label_lt p q ≡ false = and_out (d.priority == e.priority) (label_lt p q)
+    (eq-eqb d.priority e.priority same) b.1 in
+    elim (cases_Bool (bytes_eq p q)) [
+      | inl e ↦ same_is p q e
+      | inr n ↦ absurd (not_both (label_lt q p) (lt_other p q n before) after)
+    ]
+
+-- so there is one source
+pub one_source : (size : Sizes) (seen : Image) (ps : List (List ℕ)) (p q : List ℕ)
+    (d e : Metadata) → IsSourceAmong size seen ps p d → IsSourceAmong size seen ps q e → p ≡ q
+one_source size seen ps p q d e a b =
+    one_first p q d e (a.first q e b.active) (b.first p d a.active)
+
 -- these members are those of the named images
 module _ (size : Sizes) (seen : Image) (ps : List (List ℕ)) (ys : List Member)
     (there : (x : Member) → Has ys x → Has ps x.provider × Says size seen x.provider x.metadata)
     (all : (q : List ℕ) (d : Metadata) → Has ps q → Says size seen q d
     → (x : Member) × Has ys x × (x.provider ≡ q) × (x.metadata ≡ d)) where
-  active_tells : (x : Member) → Has (active_of ys) x
+  pub active_tells : (x : Member) → Has (active_of ys) x
       → IsActiveAmong size seen ps x.provider x.metadata
   active_tells x h =
       let from = Has-filter (is_active_of ys) ys x h in
@@ -34,7 +72,7 @@ module _ (size : Sizes) (seen : Image) (ps : List (List ℕ)) (ys : List Member)
             (all_has (λ (z : Member). not (is_newer z.metadata x.metadata)) ys parts.1 y.0 y.1));
       }
 
-  tells_active : (q : List ℕ) (d : Metadata) → IsActiveAmong size seen ps q d
+  pub tells_active : (q : List ℕ) (d : Metadata) → IsActiveAmong size seen ps q d
       → (x : Member) × Has (active_of ys) x × (x.provider ≡ q) × (x.metadata ≡ d)
   tells_active q d is =
       let y = all q d is.named is.says in

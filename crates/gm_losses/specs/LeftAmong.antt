@@ -1,17 +1,22 @@
--- The images that are left, and those that are whole beside a DIRTY source, as a function of what
--- tasting tells: the form by which code and proofs go. The relations are in `LeftImages` and
--- `WholeImages`.
-use Rattle.std.specs.Prelude.{ℕ, Bool, false, true, not, ◌==◌, ◌&&◌, ◌||◌, List, [], Option, Some, None, filter, find, if◌then◌else◌}
+-- The images that are left, those that are whole beside a DIRTY source, and those whose data differ
+-- from the source's, as a function of what tasting tells and of the data: the form by which code
+-- and proofs go. The relations are in `LeftImages`, `WholeImages` and `DifferingImages`.
+use Rattle.std.specs.Prelude.{ℕ, zero, suc, Bool, false, true, not, nat_lt, ◌==◌, ◌&&◌, ◌||◌, List, [], ◌∷◌, Option, Some, None, filter, find, if◌then◌else◌}
 use Rattle.std.specs.List.{filter_map, list_all, list_any}
-use Rattle.gm_metadata.specs.Images.{same_label}
+use Rattle.std.specs.Option.{option_or}
+use Rattle.std.specs.Str.{bytes_eq}
+use Rattle.gm_metadata.specs.Images.{Image, Sizes, same_label}
 use Rattle.gm_taste.specs.declared.tasted.Group.{Group}
 use Rattle.gm_taste.specs.declared.tasted.Member.{Member}
 use Rattle.gm_taste.specs.declared.tasted.MemberState.{MemberState}
 use Rattle.gm_taste.specs.declared.tasted.MemberState.TheVariants.{Broken}
+use Rattle.gm_refusals.specs.Adoptable.{data_of}
+use Rattle.gm_apply.specs.DifferingData.{count_differing}
+use Rattle.gm_apply.specs.EqualData.{reach_of}
 use Rattle.gm_losses.specs.LeftImages.{is_in_use, is_newer, is_whole}
 use Rattle.gm_losses.specs.WholeImages.{goes_first}
 use Rattle.gm_losses.specs.declared.loss.Loss.{Loss}
-use Rattle.gm_losses.specs.declared.loss.Loss.TheVariants.{Left, Whole}
+use Rattle.gm_losses.specs.declared.loss.Loss.TheVariants.{Differs, Left, Whole}
 
 abbrev pub is_broken : MemberState → Bool
 is_broken Broken = true
@@ -70,13 +75,6 @@ is_whole_with x y = is_whole y.metadata && (y.metadata.genid == x.metadata.genid
 abbrev pub is_torn : List Member → Member → Bool
 is_torn xs x = x.metadata.dflags.dirty && list_any (is_whole_with x) xs
 
--- the providers of those that are whole beside the source of the members on these
-abbrev pub whole_as : List Member → Member → Option (List ℕ)
-whole_as sources x = if is_whole_beside sources x then Some x.provider else None
-
-abbrev pub whole_among : List Member → List (List ℕ) → List (List ℕ)
-whole_among xs ps = filter_map (whole_as (sources_among xs ps)) xs
-
 -- ---- what is told of members
 
 -- a member isn't left, though it is of the group
@@ -89,12 +87,51 @@ left_as xs ps sources x =
     if is_whole_beside sources x then Some (Whole x.provider)
     else (if is_no_loss xs ps x then None else Some (Left x.provider (is_newest xs ps x)))
 
--- what is said of the group
-abbrev pub left_of : List (List ℕ) → Option Group → List Loss
-left_of ps None = []
-left_of ps (Some g) =
-    filter_map (left_as g.members.items ps (sources_among g.members.items ps)) g.members.items
+-- ---- what is told of members whose data are read
 
--- of the first group that is adopted
-abbrev pub left_among : List Group → List ℕ → List (List ℕ) → List Loss
-left_among groups name ps = left_of ps (find (is_adopted name ps) groups)
+-- the first of n sectors that differs, or n
+abbrev pub first_differing : (ℕ → List ℕ) → (ℕ → List ℕ) → ℕ → ℕ
+first_differing a b zero = 0
+first_differing a b (suc k) =
+    if nat_lt (first_differing a b k) k then first_differing a b k
+    else (if bytes_eq (a k) (b k) then suc k else k)
+
+-- what is said of a difference, if there is one
+abbrev pub difference_as : List ℕ → ℕ → ℕ → Option Loss
+difference_as p sectors first = if sectors == 0 then None else Some (Differs p sectors first)
+
+-- the member is named, and of those that are it is ACTIVE
+abbrev pub is_compared : List Member → List (List ℕ) → Member → Bool
+is_compared xs ps x = is_named ps x && is_active_of (filter (is_named ps) xs) x
+
+module _ (size : Sizes) (seen : Image) where
+  -- what is said of a member beside that source
+  abbrev pub beside_source : Member → Member → Option Loss
+  beside_source b x =
+      let n = reach_of size b.provider x.provider (data_of b.metadata) in
+      difference_as x.provider (count_differing (seen b.provider) (seen x.provider) n)
+      (first_differing (seen b.provider) (seen x.provider) n)
+
+  abbrev pub beside_first : List Member → Member → Option Loss
+  beside_first [] x = None
+  beside_first (b ∷ bs) x = beside_source b x
+
+  -- of one that is compared
+  abbrev pub differing_as : List Member → List (List ℕ) → List Member → Member → Option Loss
+  differing_as xs ps sources x =
+      if is_compared xs ps x then beside_first sources x else None
+
+  -- of one that is whole, or left, or else compared
+  abbrev pub adopted_as : List Member → List (List ℕ) → List Member → Member → Option Loss
+  adopted_as xs ps sources x =
+      option_or (left_as xs ps sources x) (differing_as xs ps sources x)
+
+  -- what is said of the group
+  abbrev pub adopted_of : List (List ℕ) → Option Group → List Loss
+  adopted_of ps None = []
+  adopted_of ps (Some g) = filter_map
+      (adopted_as g.members.items ps (sources_among g.members.items ps)) g.members.items
+
+  -- of the first group that is adopted
+  abbrev pub adopted_among : List Group → List ℕ → List (List ℕ) → List Loss
+  adopted_among groups name ps = adopted_of ps (find (is_adopted name ps) groups)

@@ -1,4 +1,6 @@
+pub mod ClearedImages
 pub mod Copies
+pub mod DifferingImages
 pub mod FreeImages
 pub mod LeftAmong
 pub mod LeftImages

@@ -3,7 +3,7 @@
 use Rattle.std.specs.Prelude.{◌≡◌, ◌≢◌, ◌⊎◌, ◌-◌, ◌<◌, ℕ, Bool, true, false, List, [], length, Some, None, IsSome}
 use Rattle.gm_metadata.specs.Images.{Image, Sizes, zeros}
 use Rattle.gm_commands.specs.declared.command.Command.{Command}
-use Rattle.gm_commands.specs.declared.command.Command.TheVariants.{Label, Insert, Remove, Deactivate, Destroy, Lost, Adopt}
+use Rattle.gm_commands.specs.declared.command.Command.TheVariants.{Label, Insert, Remove, Deactivate, Clear, Destroy, Lost, Adopt}
 use Rattle.gm_lists.specs.Ordered.{Has, AscendsBy, label_lt}
 use Rattle.gm_state.specs.declared.records.Mirror.{Mirror}
 use Rattle.gm_state.specs.declared.records.Component.{Component}
@@ -11,7 +11,10 @@ use Rattle.gm_state.specs.Intents.{IsOf}
 use Rattle.gm_state.specs.Lookups.{mirror_of}
 use Rattle.gm_state.specs.Records.{Records, members}
 use Rattle.gm_looks.specs.Audits.{IsAsRegistered}
+use Rattle.gm_metadata.specs.declared.metadata.Metadata.{Metadata}
+use Rattle.gm_losses.specs.ClearedImages.{IsNeeded}
 use Rattle.gm_losses.specs.Copies.{only_copy}
+use Rattle.gm_losses.specs.DifferingImages.{IsUnlikeSource}
 use Rattle.gm_losses.specs.FreeImages.{IsFirstData, IsFree, is_database}
 use Rattle.gm_losses.specs.LeftImages.{IsLeft}
 use Rattle.gm_losses.specs.WholeImages.{IsWholeBeside}
@@ -49,8 +52,19 @@ module _ (s : Records) (size : Sizes) (seen : Image) where
   LosesLeft name ps x = (p : List ℕ) × (newer : Bool) × (x ≡ loss.Left p newer)
       × IsLeft size seen name ps p newer × (IsWholeBeside size seen name ps p → ⊥)
 
+  -- an ACTIVE image that is named has other data than the source, and isn't told as whole either
+  abbrev pub LosesDiffering : List ℕ → List (List ℕ) → Loss → Type 0
+  LosesDiffering name ps x = (p : List ℕ) × (sectors : ℕ) × (first : ℕ)
+      × (x ≡ loss.Differs p sectors first) × IsUnlikeSource size seen name ps p sectors first
+      × (IsWholeBeside size seen name ps p → ⊥)
+
   abbrev pub LosesAdopted : List ℕ → List (List ℕ) → Loss → Type 0
-  LosesAdopted name ps x = LosesWhole name ps x ⊎ LosesLeft name ps x
+  LosesAdopted name ps x =
+      LosesWhole name ps x ⊎ (LosesLeft name ps x ⊎ LosesDiffering name ps x)
+
+  -- of an image whose metadata are wiped: by them its mirror may need it
+  abbrev pub LosesMember : List ℕ → Loss → Type 0
+  LosesMember p x = (d : Metadata) × (x ≡ loss.Member p d.name) × IsNeeded s size seen p d
 
   -- of a mirror that the component on p leaves: one copy alone stays, and others are being filled
   abbrev pub LosesCopies : List ℕ → List ℕ → Loss → Type 0
@@ -70,6 +84,7 @@ module _ (s : Records) (size : Sizes) (seen : Image) where
       × (LosesDatabase new.provider x ⊎ LosesData new.provider x)
   IsLoss (Remove name p) x = LosesCopies name p x
   IsLoss (Deactivate name p) x = LosesCopies name p x
+  IsLoss (Clear p) x = LosesMember p x
   IsLoss (Destroy name) x = LosesMirror name x
   IsLoss (Lost name ps) x = LosesIntact name ps x
   IsLoss (Adopt name ps) x = (mirror_of s name ≡ None) × LosesAdopted name ps x
@@ -83,6 +98,8 @@ provider_of (loss.Data p place) = p
 provider_of (loss.Intact p) = p
 provider_of (loss.Left p newer) = p
 provider_of (loss.Whole p) = p
+provider_of (loss.Differs p sectors first) = p
+provider_of (loss.Member p name) = p
 provider_of (loss.OnlyCopy p) = p
 provider_of (loss.Mirror n) = []
 

@@ -36,8 +36,8 @@ pub(crate) fn is_blank(sector: &[u8; 512]) -> bool
     same(sector, &[0; 512])
 }
 
-// Whether the rules refuse an image because it has so many sectors.
-fn has_wrong_size(sectors: u64) -> bool
+/// Whether the rules refuse an image because it has so many sectors.
+pub(crate) fn has_wrong_size(sectors: u64) -> bool
     ensures { result ≡ has_wrong_size sectors }
 {
     sectors < MIN_SECTORS || sectors > u64::from(MAX_SECTORS)

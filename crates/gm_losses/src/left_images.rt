@@ -1,20 +1,23 @@
-//! The images that a mirror would leave if it is adopted, or that are whole beside its source.
+//! The images that a mirror would leave if it is adopted, or that are whole beside its source, or
+//! whose data aren't the source's.
 
 ghost use Rattle.std.specs.Prelude.{◌≡◌, IfOk};
 ghost use Rattle.std.specs.List.{filter_map, list_all};
 ghost use Rattle.gm_shelf.specs.Keeping.{Looks};
-ghost use Rattle.gm_losses.specs.LeftAmong.{has_member, is_adopted, is_broken, is_newest, is_no_loss, left_among, left_as, sources_among};
+ghost use Rattle.gm_losses.specs.LeftAmong.{adopted_among, adopted_as, has_member, is_adopted, is_broken, is_newest, is_no_loss, left_as, sources_among};
 ghost use Rattle.gm_losses.specs.Losses.{AreLosses};
 
+use crate::differing_images::differing_as;
 use crate::loss::Loss;
 use crate::whole_images::{is_named, is_newer, is_torn, is_whole_beside, sources_among};
+use gm_apply::Watch;
 use gm_commands::{Command, Providers};
 use gm_looks::taste_shelf;
 use gm_metadata::Label;
 use gm_shelf::{Shelf, ShelfFault};
 use gm_state::State;
 use gm_taste::{Group, Member, MemberState};
-use std::alloc::{AllocError, Global};
+use std::alloc::Global;
 
 fn is_broken(state: MemberState) -> bool
     ensures { result ≡ is_broken state }
@@ -82,42 +85,82 @@ fn left_as(
     })
 }
 
+// What is said of a member: that it is whole, or left, or else that its data aren't the source's.
+fn adopted_as<H: Shelf, W: Watch>(
+    alloc: Global,
+    shelf: &mut H,
+    members: &[Member],
+    providers: &[Label],
+    sources: &[Member],
+    member: &Member,
+    watch: &mut W,
+) -> Result<Option<Loss>, ShelfFault>
+    ensures told { H.honest shelf.old → IfOk result (λ found. found
+        ≡ adopted_as (H.size shelf.old) (H.view shelf.old).seen members.now providers.now
+        sources.now member.now) }
+    ensures looks { Looks H.Shelf shelf.old shelf.new result }
+{
+    match left_as(members, providers, sources, member) {
+        Some(loss) => Ok(Some(loss)),
+        None => differing_as(alloc, shelf, members, providers, sources, member, watch),
+    }
+}
+
 // What is said of a group.
-fn left_in(alloc: Global, members: &[Member], providers: &[Label]) -> Result<Vec<Loss>, AllocError>
-    ensures { IfOk result (λ v. v.items ≡ filter_map (left_as members.now providers.now
-        (sources_among members.now providers.now)) members.now) }
+fn adopted_in<H: Shelf, W: Watch>(
+    alloc: Global,
+    shelf: &mut H,
+    members: &[Member],
+    providers: &[Label],
+    watch: &mut W,
+) -> Result<Vec<Loss>, ShelfFault>
+    ensures told { H.honest shelf.old → IfOk result (λ v. v.items
+        ≡ filter_map (adopted_as (H.size shelf.old) (H.view shelf.old).seen members.now
+        providers.now (sources_among members.now providers.now)) members.now) }
+    ensures looks { Looks H.Shelf shelf.old shelf.new result }
 {
     let sources = sources_among(alloc, members, providers)?;
-    members
-        .iter()
-        .filter_map(|x| left_as(members, providers, &sources, x))
-        .collect(alloc)
+    let mut list = Vec::new(alloc);
+    for member in members {
+        let told = adopted_as(alloc, shelf, members, providers, &sources, member, watch)?;
+        if let Some(loss) = told {
+            list.push(loss)?;
+        }
+    }
+    Ok(list)
 }
 
 // What is said of the first group that is adopted.
-fn left_among(
+fn adopted_among<H: Shelf, W: Watch>(
     alloc: Global,
+    shelf: &mut H,
     groups: &[Group],
     name: Label,
     providers: &[Label],
-) -> Result<Vec<Loss>, AllocError>
-    ensures { IfOk result (λ v. v.items ≡ left_among groups.now name providers.now) }
+    watch: &mut W,
+) -> Result<Vec<Loss>, ShelfFault>
+    ensures told { H.honest shelf.old → IfOk result (λ v. v.items
+        ≡ adopted_among (H.size shelf.old) (H.view shelf.old).seen groups.now name
+        providers.now) }
+    ensures looks { Looks H.Shelf shelf.old shelf.new result }
 {
     for group in groups {
         if is_adopted(name, providers, group) {
-            return left_in(alloc, &group.members, providers);
+            return adopted_in(alloc, shelf, &group.members, providers, watch);
         }
     }
     Ok(Vec::new(alloc))
 }
 
-/// What an `adopt` would take away. `Device` if a last sector can't be read, or `Memory`.
-pub(crate) fn losses_of_adopt<H: Shelf>(
+/// What an `adopt` would take away. The watch is told how far data are compared. `Device` if a last
+/// sector or a sector that is compared can't be read, or `Memory`.
+pub(crate) fn losses_of_adopt<H: Shelf, W: Watch>(
     alloc: Global,
     shelf: &mut H,
     state: &State,
     name: Label,
     providers: &Providers,
+    watch: &mut W,
 ) -> Result<Vec<Loss>, ShelfFault>
     ensures losses { H.honest shelf.old → IfOk result (λ list. AreLosses state.now
         (H.size shelf.old) (H.view shelf.old).seen (Command.Adopt name providers.now) list.items) }
@@ -127,6 +170,7 @@ pub(crate) fn losses_of_adopt<H: Shelf>(
         return Ok(Vec::new(alloc));
     }
     let tasted = taste_shelf(alloc, shelf)?;
-    let list = left_among(alloc, &tasted.groups, name, providers.as_slice())?;
+    let groups = tasted.groups.as_slice();
+    let list = adopted_among(alloc, shelf, groups, name, providers.as_slice(), watch)?;
     Ok(list)
 }

@@ -41,6 +41,21 @@ pub enum Loss {
         /// syncid.
         newer: bool,
     },
+    /// Of an `adopt`: this image is named, would be ACTIVE by what the named images say, and isn't
+    /// told as `Whole`; but its data aren't the source's. It would be filled anew.
+    Differs {
+        provider: Label,
+        /// In how many sectors, of the mirror's data and up to the ends of both images.
+        sectors: u64,
+        /// The first of these, counted from 0.
+        first: u64,
+    },
+    /// Of a `clear`: the image says that it is in a mirror of this name, and none of INACTIVE and
+    /// SYNCHRONIZING, and isn't BROKEN beside a registered one of its name and mid.
+    Member {
+        provider: Label,
+        mirror: Label,
+    },
     /// Of a `remove` or a `deactivate`: of the ACTIVE components this one alone would stay, while
     /// others are STALE or SYNCHRONIZING.
     OnlyCopy {

@@ -2,7 +2,7 @@
 
 ghost use Rattle.std.specs.Prelude.{◌≡◌, IfOk, filter, not};
 ghost use Rattle.std.specs.List.{list_all, list_any};
-ghost use Rattle.gm_losses.specs.LeftAmong.{active_of, is_active_of, is_dirty_beside, is_first_of, is_named, is_torn, is_whole_beside, is_whole_with, sources_among, sources_of, whole_among, whole_as};
+ghost use Rattle.gm_losses.specs.LeftAmong.{active_of, is_active_of, is_dirty_beside, is_first_of, is_named, is_torn, is_whole_beside, is_whole_with, sources_among, sources_of};
 ghost use Rattle.gm_losses.specs.LeftImages.{is_in_use, is_newer, is_whole};
 ghost use Rattle.gm_losses.specs.WholeImages.{goes_first};
 
@@ -24,8 +24,8 @@ pub(crate) fn is_named(providers: &[Label], member: &Member) -> bool
     providers.iter().any(|p| member.provider == *p)
 }
 
-// Whether it takes part, and isn't being filled.
-fn is_in_use(metadata: &Metadata) -> bool
+/// Whether it takes part, and isn't being filled.
+pub(crate) fn is_in_use(metadata: &Metadata) -> bool
     ensures { result ≡ is_in_use metadata.now }
 {
     !metadata.dflags.inactive && !metadata.dflags.synchronizing
@@ -54,8 +54,8 @@ fn none_is_newer(members: &[Member], metadata: &Metadata) -> bool
     members.iter().all(|x| !is_newer(&x.metadata, metadata))
 }
 
-// Whether the member would be ACTIVE among these.
-fn is_active_of(members: &[Member], member: &Member) -> bool
+/// Whether the member would be ACTIVE among these.
+pub(crate) fn is_active_of(members: &[Member], member: &Member) -> bool
     ensures { result ≡ is_active_of members.now member.now }
 {
     is_in_use(&member.metadata) && none_is_newer(members, &member.metadata)
@@ -91,8 +91,8 @@ fn sources_of(alloc: Global, members: &[Member]) -> Result<Vec<Member>, AllocErr
         .collect(alloc)
 }
 
-// Those of the members that are on one of these providers.
-fn named_of(
+/// Those of the members that are on one of these providers.
+pub(crate) fn named_of(
     alloc: Global,
     members: &[Member],
     providers: &[Label],
@@ -159,31 +159,4 @@ pub(crate) fn is_torn(members: &[Member], member: &Member) -> bool
     ensures { result ≡ is_torn members.now member.now }
 {
     member.metadata.dflags.dirty && any_whole_with(members, member)
-}
-
-// The provider of the member, if it is whole beside a DIRTY source.
-fn whole_as(sources: &[Member], member: &Member) -> Option<Label>
-    ensures { result ≡ whole_as sources.now member.now }
-{
-    match is_whole_beside(sources, member) {
-        true => Some(member.provider),
-        false => None,
-    }
-}
-
-/// The images that speak against an `adopt` from these providers, which are of the mirror of these
-/// members: if the source would be DIRTY, those with its genid that say none of DIRTY,
-/// SYNCHRONIZING and INACTIVE.
-pub fn whole_among(
-    alloc: Global,
-    members: &[Member],
-    providers: &[Label],
-) -> Result<Vec<Label>, AllocError>
-    ensures { IfOk result (λ v. v.items ≡ whole_among members.now providers.now) }
-{
-    let sources = sources_among(alloc, members, providers)?;
-    members
-        .iter()
-        .filter_map(|x| whole_as(&sources, x))
-        .collect(alloc)
 }

@@ -117,8 +117,8 @@ fn registered(rt: &impl Abort) -> [u8; 512] {
 }
 
 // a.img as it is registered; d.img and e.img of gm1, with e.img newer; i.img, which is blank; j.img
-// with data in sector 128; k.img, a database with data in its last sector; and m.img and n.img of
-// gm2, with m.img newer and DIRTY.
+// with data in sector 128; k.img, a database with data in its last sector; m.img and n.img of gm2,
+// with m.img newer and DIRTY; and p.img and q.img of gm3, which differ in two sectors.
 fn images(rt: &(impl Abort + AllocGlobal)) -> MemShelf {
     let mut shelf = MemShelf::new(rt.alloc());
     add(rt, &mut shelf, "a.img", 4, &[(3, registered(rt))]);
@@ -158,6 +158,20 @@ fn images(rt: &(impl Abort + AllocGlobal)) -> MemShelf {
         "n.img",
         4,
         &[(3, said(rt, "gm2", 2, 3, false))],
+    );
+    add(
+        rt,
+        &mut shelf,
+        "p.img",
+        4,
+        &[(2, one_byte()), (3, said(rt, "gm3", 1, 3, false))],
+    );
+    add(
+        rt,
+        &mut shelf,
+        "q.img",
+        4,
+        &[(1, one_byte()), (3, said(rt, "gm3", 2, 3, false))],
     );
     shelf
 }
@@ -202,15 +216,18 @@ fn inserted(rt: &impl Abort, name: &str, provider: &str) -> Command {
     })
 }
 
-fn providers(rt: &(impl Abort + AllocGlobal), name: &str) -> Providers {
-    let named = [label(rt, name)].to_vec(rt.alloc());
-    Providers::new(named.expect(rt, "no memory")).expect(rt, "none")
+fn providers(rt: &(impl Abort + AllocGlobal), names: &[&str]) -> Providers {
+    let mut named = Vec::new(rt.alloc());
+    for name in names {
+        named.push(label(rt, *name)).expect(rt, "no memory");
+    }
+    Providers::new(named).expect(rt, "none")
 }
 
-fn adopted(rt: &(impl Abort + AllocGlobal), name: &str, provider: &str) -> Command {
+fn adopted(rt: &(impl Abort + AllocGlobal), name: &str, names: &[&str]) -> Command {
     Command::Adopt {
         name: label(rt, name),
-        providers: providers(rt, provider),
+        providers: providers(rt, names),
     }
 }
 
@@ -251,12 +268,14 @@ fn tells(
 }
 
 // Of a label two sectors are read. Of an insert they are too, and then each run of 128 sectors up to
-// the first data; of a lost image its last one, and of an adoption that of each image.
+// the first data; of an image that is lost or cleared its last one, and of an adoption that of each
+// image, and then the data of those that are compared.
 #[test]
 fn each_loss_is_told_unless_a_read_fails(rt: HostRuntime) {
-    let [a, b, e, j, k, n] = ["a.img", "b.img", "e.img", "j.img", "k.img", "n.img"].map(
-        |name| label(&rt, name),
-    );
+    let [a, b, d, e, i, j, k, n, q] = [
+        "a.img", "b.img", "d.img", "e.img", "i.img", "j.img", "k.img", "n.img", "q.img",
+    ]
+    .map(|name| label(&rt, name));
     let name = label(&rt, "gm0");
     let both = [
         Loss::Database { provider: k },
@@ -277,7 +296,7 @@ fn each_loss_is_told_unless_a_read_fails(rt: HostRuntime) {
         [128, 130],
         &[data],
     );
-    let providers = providers(&rt, "a.img");
+    let providers = providers(&rt, &["a.img"]);
     let intact = Loss::Intact { provider: a };
     tells(
         &rt,
@@ -290,10 +309,28 @@ fn each_loss_is_told_unless_a_read_fails(rt: HostRuntime) {
         provider: e,
         newer: true,
     };
-    tells(&rt, &adopted(&rt, "gm1", "d.img"), 8, [0, 0], &[left]);
+    tells(&rt, &adopted(&rt, "gm1", &["d.img"]), 10, [0, 0], &[left]);
     let whole = Loss::Whole { provider: n };
-    tells(&rt, &adopted(&rt, "gm2", "m.img"), 8, [0, 0], &[whole]);
-    tells(&rt, &adopted(&rt, "gm2", "n.img"), 8, [0, 0], &[]);
+    tells(&rt, &adopted(&rt, "gm2", &["m.img"]), 10, [0, 0], &[whole]);
+    tells(&rt, &adopted(&rt, "gm2", &["n.img"]), 10, [0, 0], &[]);
+    let differs = Loss::Differs {
+        provider: q,
+        sectors: 2,
+        first: 1,
+    };
+    tells(
+        &rt,
+        &adopted(&rt, "gm3", &["q.img", "p.img"]),
+        16,
+        [3, 3],
+        &[differs],
+    );
+    let member = Loss::Member {
+        provider: d,
+        mirror: label(&rt, "gm1"),
+    };
+    tells(&rt, &Command::Clear { provider: d }, 1, [0, 0], &[member]);
+    tells(&rt, &Command::Clear { provider: i }, 1, [0, 0], &[]);
     let deactivate = Command::Deactivate { name, provider: a };
     let copy = Loss::OnlyCopy { provider: b };
     tells(&rt, &deactivate, 0, [0, 0], &[copy]);

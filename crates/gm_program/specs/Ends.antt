@@ -9,8 +9,8 @@ use Rattle.gm_process.specs.Statuses.{MayRefuse}
 -- what shows mirrors or serves requests is done; what holds images against records or each other
 -- may find damage, and a command may be refused, as a recovery without a provider
 abbrev pub MayEnd : Work → Status → Type 0
-MayEnd (work.Recover form) status = status ≡ Done
-MayEnd (work.RecoverWithout provider key form) status = MayRefuse status
+MayEnd (work.Recover checks form) status = status ≡ Done
+MayEnd (work.RecoverWithout provider key checks form) status = MayRefuse status
 MayEnd (work.Status form) status = status ≡ Done
 MayEnd (work.List form) status = status ≡ Done
 MayEnd (work.Audit form) status = MayRefuse status
@@ -20,6 +20,6 @@ MayEnd (work.Command single) status = MayRefuse status
 MayEnd (work.AdoptAll checks) status = MayRefuse status
 MayEnd (work.Replace replacing) status = MayRefuse status
 MayEnd (work.Write writing) status = MayRefuse status
-MayEnd (work.Batch audits stops) status = MayRefuse status
+MayEnd (work.Batch audits stops guards) status = MayRefuse status
 MayEnd (work.Sync filling) status = MayRefuse status
 MayEnd (work.Serve service) status = status ≡ Done

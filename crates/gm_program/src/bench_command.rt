@@ -46,7 +46,7 @@ pub fn perform<S: Alter, H: Shelf, I: BufRead, O: Write, E: Write>(
 {
     let alloc = rt.alloc();
     match *work {
-        Work::Recover(form) | Work::RecoverWithout { form, .. } => {
+        Work::Recover { form, .. } | Work::RecoverWithout { form, .. } => {
             Ok(recovered(alloc, bench.redone(), form)?)
         }
         Work::Status(form) => {
@@ -93,12 +93,22 @@ pub fn perform<S: Alter, H: Shelf, I: BufRead, O: Write, E: Write>(
         Work::Batch {
             audits: false,
             stops: false,
+            guards: false,
         } => {
             let status = hand_in(rt, bench, streams)?;
             Ok(told(alloc, status))
         }
-        Work::Batch { audits, stops } => {
-            let status = hand_in_lines_of(rt, Lines { audits, stops }, bench, streams)?;
+        Work::Batch {
+            audits,
+            stops,
+            guards,
+        } => {
+            let lines = Lines {
+                audits,
+                guards,
+                stops,
+            };
+            let status = hand_in_lines_of(rt, lines, bench, streams)?;
             Ok(told(alloc, status))
         }
         Work::Sync(filling) => fill_components(rt, filling, bench, streams),

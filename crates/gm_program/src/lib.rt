@@ -4,11 +4,13 @@
 //!
 //! `over_streams.rt` is all of it, for the jobs that `gm_command_line` reads from words and from
 //! the environment. What is done at a bench, by `bench_command.rt`, is done in the folder and with
-//! the registry that `place.rt` opens and closes (`specs/Ends.antt` says how it ends); `recover.rt`
-//! has the command `recover`. The other commands stand in crates of their own: `gm_dump`,
-//! `gm_looking`, `gm_filling`, `gm_handing_in` and `gm_writing`.
+//! the registry that `place.rt` opens and closes (`specs/Ends.antt` says how it ends), after
+//! `before_opening.rt` has looked at the images that pending writes name; `recover.rt` has the
+//! command `recover`. The other commands stand in crates of their own: `gm_dump`, `gm_looking`,
+//! `gm_filling`, `gm_handing_in`, `gm_by_itself`, `gm_replacing` and `gm_writing`.
 #![tactic(auto)]
 
+mod before_opening;
 mod bench_command;
 mod over_streams;
 mod place;

@@ -137,10 +137,11 @@ fn run<I: BufRead, O: Write, E: Write>(
     Ok(status)
 }
 
-// Says how to go on without an image that a pending write needs.
+// Says how to go on after a fault, or without an image that a pending write needs.
 fn say_way_on<I, O, E: Write>(streams: &mut Streams<'_, I, O, E>, fault: &Fault) {
     if let Some(way_on) = &streams.explaining.way_on {
         let _ = streams.complaints.write_all(way_on.as_bytes());
+        return;
     }
     let Fault::Bench(fault) = fault else {
         return;

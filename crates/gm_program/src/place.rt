@@ -5,6 +5,7 @@ ghost use Rattle.std.specs.Prelude.{◌≡◌, false, Err, IfOk};
 ghost use Rattle.gm_process.specs.Statuses.{MayRefuse};
 ghost use Rattle.gm_program.specs.Ends.{MayEnd};
 
+use crate::before_opening::{Care, make_ready};
 use crate::bench_command::perform;
 use crate::recover::{recovered_without, refused_without};
 use gm_bench::{Bench, BenchFault, OpenFault, Without};
@@ -13,7 +14,7 @@ use gm_faults::{Fault, explain_loss};
 use gm_looking::{complain_of_pending, way_on};
 use gm_metadata::Label;
 use gm_process::{HeldFolder, Patience, Place, Status, Streams};
-use gm_registry::{StoreFault, named_images};
+use gm_registry::StoreFault;
 use gm_registry_files::{
     Obstacle, StoreCause, is_there, leave_out_registry, obstacle_to_opening, open_store,
     store_cause,
@@ -25,31 +26,13 @@ use sqlite_disk::Disk;
 use std::alloc::Global;
 use std::io::{self, BufRead, Write};
 
-// Has what is read next of the images that pending writes name be what their media hold. What
-// can't be read of a registry is left to its opening.
-fn settle_named<S: Alter, I, O, E>(
-    alloc: Global,
-    store: &mut Connection<S>,
-    shelf: &mut FileShelf<HostRuntime>,
-    streams: &mut Streams<'_, I, O, E>,
-) -> Result<(), BenchFault> {
-    let names = match named_images(alloc, store) {
-        Ok(names) => names,
-        Err(StoreFault::Memory) => return Err(BenchFault::Memory),
-        Err(_) => return Ok(()),
-    };
-    let settled = shelf.settle(&names);
-    streams.explaining.failure = shelf.last_failure();
-    Ok(settled?)
-}
-
 // Lets the media go over which no bench is opened, and hands on why. It is done here alone, since
 // it is dear to prove.
 fn unopened<S: Alter + Drop, T>(
     _store: Connection<S>,
     _shelf: FileShelf<HostRuntime>,
-    fault: BenchFault,
-) -> Result<T, BenchFault>
+    fault: Fault,
+) -> Result<T, Fault>
     ensures { result ≡ Err fault }
 {
     Err(fault)
@@ -59,9 +42,9 @@ fn unopened<S: Alter + Drop, T>(
 fn heed_unopened<S: Alter + Drop, I, O, E>(
     left: OpenFault<S, FileShelf<HostRuntime>>,
     streams: &mut Streams<'_, I, O, E>,
-) -> BenchFault {
+) -> Fault {
     streams.explaining.failure = left.shelf.last_failure();
-    left.fault
+    Fault::Bench(left.fault)
 }
 
 // Closes a bench, of which the store alone is kept.
@@ -87,7 +70,7 @@ fn without<S: Alter + Drop, I, O, E: Write>(
     key: &str,
     form: Form,
     streams: &mut Streams<'_, I, O, E>,
-) -> Result<ClosedBench<S>, BenchFault>
+) -> Result<ClosedBench<S>, Fault>
     requires { store.in_transaction ≡ false }
     ensures { IfOk result (λ it. IfOk it.report (λ report. MayRefuse report.status)) }
 {
@@ -125,7 +108,7 @@ fn worked<S: Alter + Drop, I: BufRead, O: Write, E: Write>(
     shelf: FileShelf<HostRuntime>,
     work: &Work<'_>,
     streams: &mut Streams<'_, I, O, E>,
-) -> Result<ClosedBench<S>, BenchFault>
+) -> Result<ClosedBench<S>, Fault>
     requires { store.in_transaction ≡ false }
     ensures { IfOk result (λ it. IfOk it.report (λ report. MayEnd work.now report.status)) }
 {
@@ -150,27 +133,28 @@ fn worked<S: Alter + Drop, I: BufRead, O: Write, E: Write>(
 }
 
 // Opens a bench, which carries out what is pending, has the work done at it, and gives its store
-// back with the report. The images that pending writes name are settled before.
+// back with the report. The images that pending writes name are made ready before.
 fn at_bench<S: Alter + Drop, I: BufRead, O: Write, E: Write>(
     rt: &HostRuntime,
     mut store: Connection<S>,
     mut shelf: FileShelf<HostRuntime>,
     work: &Work<'_>,
     streams: &mut Streams<'_, I, O, E>,
-) -> Result<ClosedBench<S>, BenchFault>
+) -> Result<ClosedBench<S>, Fault>
     ensures { IfOk result (λ it. IfOk it.report (λ report. MayEnd work.now report.status)) }
 {
-    if let Err(fault) = settle_named(rt.alloc(), &mut store, &mut shelf, streams) {
+    if let Err(fault) = make_ready(rt, &mut store, Care::of(work), &mut shelf, streams) {
         return unopened(store, shelf, fault);
     }
     if !store.is_autocommit() {
-        return unopened(store, shelf, BenchFault::Store);
+        return unopened(store, shelf, Fault::Bench(BenchFault::Store));
     }
     match *work {
         Work::RecoverWithout {
             provider,
             key,
             form,
+            ..
         } => without(rt.alloc(), store, shelf, provider, key, form, streams),
         _ => worked(rt, store, shelf, work, streams),
     }
@@ -205,20 +189,21 @@ fn heed_failure<I, O, E>(
 }
 
 // Opens a bench, which carries out what is pending, and gives its store back. The images that
-// pending writes name are settled before.
+// pending writes name are made ready before.
 fn settled<S: Alter + Drop, I, O, E>(
-    alloc: Global,
+    rt: &HostRuntime,
     mut store: Connection<S>,
+    care: Care,
     mut shelf: FileShelf<HostRuntime>,
     streams: &mut Streams<'_, I, O, E>,
-) -> Result<Connection<S>, BenchFault> {
-    if let Err(fault) = settle_named(alloc, &mut store, &mut shelf, streams) {
+) -> Result<Connection<S>, Fault> {
+    if let Err(fault) = make_ready(rt, &mut store, care, &mut shelf, streams) {
         return unopened(store, shelf, fault);
     }
     if !store.is_autocommit() {
-        return unopened(store, shelf, BenchFault::Store);
+        return unopened(store, shelf, Fault::Bench(BenchFault::Store));
     }
-    match Bench::open(alloc, store, shelf) {
+    match Bench::open(rt.alloc(), store, shelf) {
         Ok(bench) => Ok(store_of(bench)),
         Err(left) => Err(heed_unopened(left, streams)),
     }
@@ -228,6 +213,7 @@ fn settled<S: Alter + Drop, I, O, E>(
 fn carry_out<I, O, E>(
     rt: &HostRuntime,
     registry: &str,
+    care: Care,
     shelf: FileShelf<HostRuntime>,
     streams: &mut Streams<'_, I, O, E>,
 ) -> Result<(), Fault> {
@@ -235,7 +221,7 @@ fn carry_out<I, O, E>(
         return Err(Fault::from(found.fault));
     }
     let store = open_store(rt, registry).map_err(StoreFault::from)?;
-    let store = settled(rt.alloc(), store, shelf, streams)?;
+    let store = settled(rt, store, care, shelf, streams)?;
     Ok(store.close().map_err(StoreFault::from)?)
 }
 
@@ -244,11 +230,12 @@ fn carry_out<I, O, E>(
 fn open_again<I, O, E: Write>(
     rt: &HostRuntime,
     registry: &str,
+    care: Care,
     shelf: FileShelf<HostRuntime>,
     streams: &mut Streams<'_, I, O, E>,
 ) {
     let failure = streams.explaining.failure;
-    if carry_out(rt, registry, shelf, streams).is_err() {
+    if carry_out(rt, registry, care, shelf, streams).is_err() {
         complain_of_pending(rt, registry, streams.complaints);
     }
     streams.explaining.failure = failure;
@@ -276,7 +263,7 @@ fn at_files<D: Disk + Drop, I: BufRead, O: Write, E: Write>(
         streams.explaining.trouble = cause.and_then(|cause| cause.trouble(rt.alloc(), registry));
     }
     if let Some(shelf) = shelf {
-        open_again(rt, registry, shelf, streams);
+        open_again(rt, registry, Care::of(work), shelf, streams);
     }
     let report = report?;
     closed.map_err(StoreFault::from)?;

@@ -4,13 +4,15 @@
 ghost use Rattle.std.specs.Prelude.{◌≡◌, ◌≢◌, IsTrue, IfOk, IfErr};
 ghost use Rattle.gm_state.specs.Rows.{Tables};
 ghost use Rattle.gm_registry.specs.Registry.{DiskKept, HasTables};
-ghost use Rattle.gm_registry_files.specs.Wholes.{IsWholeOf};
+ghost use Rattle.gm_registry_files.specs.Wholes.{IsTold};
 
 use crate::opened::open_files;
 use crate::registry_files::file_fault;
 use crate::shared::{disks_over, has_journal, shared_files};
 use gm_overlay::OverlayDisk;
+use gm_pending::stopped_in;
 use gm_registry::{Loaded, Registry, StoreFault};
+use gm_stopped::Stopped;
 use sqlite::{Alter, Connection, Files, Options};
 use sqlite_disk::Disk;
 use std::alloc::Global;
@@ -33,21 +35,45 @@ fn files_of(rt: &HostRuntime, registry: &str, key: u64) -> io::Result<Files<Over
     disks_over(rt.alloc(), shared, key)
 }
 
-/// What a registry holds, and how many commands it has accepted.
+/// What a registry holds, how many commands it has accepted, and of which its writes are pending,
+/// if any are.
 #[derive(Drop)]
 pub struct Whole {
     pub loaded: Loaded,
     pub accepted: u64,
+    pub stopped: Stopped,
 }
 
-// Reads all of a registry.
-fn read_whole<S: Alter>(alloc: Global, registry: &mut Registry<S>) -> Result<Whole, StoreFault>
-    ensures { DiskKept S.Store registry.new → IfOk result (λ whole. (t : Tables)
-        → HasTables S.Store registry.old t → IsWholeOf t whole) }
+// What the calls of a registry tell of it.
+#[derive(Drop)]
+struct Told {
+    loaded: Loaded,
+    accepted: u64,
+}
+
+// Reads what the calls of a registry tell of it.
+fn read_told<S: Alter>(alloc: Global, registry: &mut Registry<S>) -> Result<Told, StoreFault>
+    ensures { DiskKept S.Store registry.new → IfOk result (λ told. (t : Tables)
+        → HasTables S.Store registry.old t → IsTold t told) }
 {
     let loaded = registry.load(alloc)?;
     let accepted = registry.accepted()?;
-    Ok(Whole { loaded, accepted })
+    Ok(Told { loaded, accepted })
+}
+
+// Reads which command's writes are pending beside that.
+fn with_stopped<S: Alter>(
+    alloc: Global,
+    store: &mut Connection<S>,
+    told: Result<Told, StoreFault>,
+) -> Result<Whole, StoreFault> {
+    let Told { loaded, accepted } = told?;
+    let stopped = stopped_in(alloc, store, &loaded.state, &loaded.intents)?;
+    Ok(Whole {
+        loaded,
+        accepted,
+        stopped,
+    })
 }
 
 // Reads all of a registry in a store, which is given back: to drop a whole one is dear to prove.
@@ -60,8 +86,9 @@ fn read_store<S: Alter>(
     }
     match Registry::open(store) {
         Ok(mut registry) => {
-            let whole = read_whole(alloc, &mut registry);
-            (whole, registry.close())
+            let told = read_told(alloc, &mut registry);
+            let mut store = registry.close();
+            (with_stopped(alloc, &mut store, told), store)
         }
         Err(e) => (Err(e.fault), e.store),
     }

@@ -77,6 +77,7 @@ pub(crate) fn fill_new<S: Alter, H: Shelf, I, O: Write, E: Write>(
             provider: replacing.new,
         },
         audits: replacing.checks.images,
+        heeds_use: replacing.checks.uses,
         is_quiet: replacing.is_quiet,
         form: Form::Text,
     };

@@ -21,7 +21,7 @@ use sqlite::Alter;
 #[derive(Drop)]
 pub(crate) struct Plan {
     pub(crate) steps: Vec<Step>,
-    /// The number that a new component gets.
+    /// A number that a new component may have: it is judged by this one, before one is drawn.
     pub(crate) did: u32,
     pub(crate) judged: Judged,
 }

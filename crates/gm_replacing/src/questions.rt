@@ -11,8 +11,9 @@ use gm_by_itself::following_key;
 use gm_command_line::{Checks, Form, Replacing};
 use gm_faults::Fault;
 use gm_front::in_the_way;
-use gm_handing_in::{is_wanted, losses_told};
+use gm_handing_in::{are_free, is_wanted, losses_told};
 use gm_lines::shown;
+use gm_metadata::Label;
 use gm_process::Streams;
 use gm_shelf::Shelf;
 use gm_state::State;
@@ -132,8 +133,37 @@ fn is_agreed<I: BufRead, O: Write, E: Write>(
     is_wanted(alloc, shown(first), Form::Text, sentences, streams)
 }
 
+// The images of the mirror that are registered, and the new one.
+fn images_of(alloc: Global, state: &State, exchange: &Exchange) -> Result<Vec<Label>, AllocError> {
+    let mirror = exchange.mirror;
+    let mut images: Vec<Label> = state
+        .components()
+        .iter()
+        .filter(|component| component.mirror == mirror)
+        .map(|component| component.provider)
+        .collect(alloc)?;
+    images.push(exchange.new)?;
+    Ok(images)
+}
+
+// Whether nothing else uses the new image or one of the mirror's, or nothing is left to be done.
+fn has_free_images<I, O: Write, E: Write>(
+    rt: &HostRuntime,
+    exchange: &Exchange,
+    first: &str,
+    plan: &Plan,
+    streams: &mut Streams<'_, I, O, E>,
+) -> Result<bool, Fault> {
+    let Some(state) = plan.judged.found.first() else {
+        return Ok(true);
+    };
+    let images = images_of(rt.alloc(), state, exchange)?;
+    are_free(rt, shown(first), Form::Text, &images, streams)
+}
+
 /// What is still to be looked at before each command, if the replacement may begin: what it would
-/// take away is asked about here, and not again. `None` if that isn't wanted, which is printed.
+/// take away is asked about here, and not again, and so is what uses the images. `None` if that
+/// isn't wanted or an image is in use, which is printed.
 pub(crate) fn checks_left<S: Alter, H: Shelf, I: BufRead, O: Write, E: Write>(
     rt: &HostRuntime,
     replacing: &Replacing<'_>,
@@ -154,12 +184,16 @@ pub(crate) fn checks_left<S: Alter, H: Shelf, I: BufRead, O: Write, E: Write>(
     if checks.images && is_withheld(alloc, &exchange, first, plan, bench)? {
         return Ok(Some(checks));
     }
+    if !has_free_images(rt, &exchange, first, plan, streams)? {
+        return Ok(None);
+    }
     let sentences = sentences_of(rt, &exchange, way, plan, streams)?;
     if !is_agreed(alloc, first, &sentences, streams)? {
         return Ok(None);
     }
     Ok(Some(Checks {
         losses: false,
+        uses: false,
         ..checks
     }))
 }

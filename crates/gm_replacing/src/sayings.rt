@@ -24,7 +24,7 @@ pub(crate) struct Refused<'a> {
     pub(crate) act: Act,
     /// The number of its key.
     pub(crate) number: usize,
-    /// The number that a new component gets.
+    /// A number that a new component may have.
     pub(crate) did: u32,
     pub(crate) why: CallRefusal,
     /// The records that it finds, if they are known.

@@ -4,8 +4,11 @@ use gm_bench::{Answer, Bench, BenchFault, Kept, OpenFault, Phase, Watch};
 use gm_commands::{Command, Sectors};
 use gm_looks::{Scrubbed, Unlike};
 use gm_metadata::{Balance, DiskFlags, Label, Metadata, MirrorFlags, encode};
+use gm_pending::{Pending, pending_in};
+use gm_rows::StoreFault;
 use gm_shelf::Shelf;
 use gm_state::{Reply, State};
+use gm_stopped::strange_images;
 use gm_test_media::{label, must, sector};
 use gm_words::read_words;
 use sqlite::{Alter, Connection};
@@ -109,6 +112,29 @@ pub fn try_open<S: Alter + Drop, H: Shelf + Drop>(
         return Err("within a transaction")?;
     }
     Ok(Bench::open(alloc, store, shelf))
+}
+
+/// No image that is pending in the store is one that no stop leaves so. A store without tables has
+/// nothing pending.
+pub fn must_be_left<S: Alter, H: Shelf>(
+    alloc: Global,
+    store: &mut Connection<S>,
+    shelf: &mut H,
+) -> Result<(), Fail> {
+    let pending = match pending_in(alloc, store) {
+        Ok(pending) => pending,
+        Err(StoreFault::Store) => return Ok(()),
+        Err(_) => return Err("what is pending can't be read")?,
+    };
+    let Pending {
+        state,
+        intents,
+        stopped,
+    } = pending;
+    match strange_images(alloc, shelf, &state, &intents, &stopped) {
+        Ok(strange) => must(strange.is_empty(), "an image that no stop leaves so"),
+        Err(_) => Err("an image can't be read")?,
+    }
 }
 
 pub fn open<S: Alter + Drop, H: Shelf + Drop>(

@@ -33,6 +33,13 @@ const AT_ONCE: usize = 16;
 // More bytes than these are written only if that is forced: 16 MiB.
 const MOST_UNFORCED: u64 = 16 * 1024 * 1024;
 
+// Nothing is looked at before a command that is refused.
+const UNCHECKED: Checks = Checks {
+    images: false,
+    losses: false,
+    uses: false,
+};
+
 // How many sectors the mirror has, and how many bytes from the first sector on that is written.
 #[derive(Clone, Copy)]
 struct Room {
@@ -103,7 +110,7 @@ fn hand_in_alone<S: Alter, H: Shelf, I: BufRead, O: Write, E: Write>(
     rt: &HostRuntime,
     patches: &Patches<'_>,
     index: usize,
-    looks: bool,
+    checks: Checks,
     bench: &mut Bench<S, H>,
     streams: &mut Streams<'_, I, O, E>,
 ) -> Result<Status, Fault>
@@ -115,11 +122,6 @@ fn hand_in_alone<S: Alter, H: Shelf, I: BufRead, O: Write, E: Write>(
     let key = patches.key(alloc, index)?;
     let text = patches.words(alloc, index)?;
     let words = pieces(alloc, text.as_str())?;
-    // Other sectors are lost by no patch.
-    let checks = Checks {
-        images: looks,
-        losses: false,
-    };
     let one = One {
         key: key.as_str(),
         words: &words,
@@ -244,8 +246,12 @@ fn hand_in_all<S: Alter, H: Shelf, I: BufRead, O: Write, E: Write>(
     if first_new >= count {
         return Ok(Status::Done);
     }
-    let looks = writing.checks.images;
-    if hand_in_alone(rt, patches, first_new, looks, bench, streams)? != Status::Done {
+    // Other sectors are lost by no patch.
+    let checks = Checks {
+        losses: false,
+        ..writing.checks
+    };
+    if hand_in_alone(rt, patches, first_new, checks, bench, streams)? != Status::Done {
         return Ok(Status::Refused);
     }
     let after = Part {
@@ -268,7 +274,7 @@ fn refuse_other<S: Alter, H: Shelf, I: BufRead, O: Write, E: Write>(
     ensures ends { IfOk result MayRefuse }
     ensures phase { OnOk result (TakesCommands (progress_of bench.new)) }
 {
-    hand_in_alone(rt, patches, other, false, bench, streams)?;
+    hand_in_alone(rt, patches, other, UNCHECKED, bench, streams)?;
     let key = patches.key(rt.alloc(), other)?;
     let _ = writeln!(
         streams.complaints,

@@ -6,6 +6,7 @@
 # recovered, and a restart shows what is on the medium.
 cat >"$work/steps" <<'END'
 set -eu
+look=
 images=$work/disk/images
 mount -t tmpfs -o size=24m none "$work/medium"
 truncate -s 64M "$work/medium/device"
@@ -29,7 +30,7 @@ run_full() {
     dd if=/dev/zero of="$work/medium/filler" bs=4k 2>/dev/null || true
     run "$what" "$@" --registry "$work/registry"
     rm "$work/medium/filler"
-    run "$what-recovered" recover --registry "$work/registry"
+    run "$what-recovered" recover $look --registry "$work/registry"
     umount "$work/disk"
     mount -o loop "$work/medium/device" "$work/disk"
     run "$what-audited" audit --read-only --registry "$work/registry"
@@ -62,6 +63,8 @@ run_full label label --mid 6 --did 1 --force gm1 c.img
 run_full patch write --key p1 --first 1000 --file "$work/sector" gm3
 cp "$images/f.img" "$work/f.img"
 take_last_block "$images/f.img"
+# The medium never had the metadata of this image, and no stop leaves that.
+look=--unchecked
 run_full adopt adopt --force gm2 e.img f.img
 cmp -n 131072 "$images/a.img" "$images/b.img" >"$work/advanced" 2>&1 || true
 dd if="$images/d.img" bs=512 skip=1000 count=1 2>/dev/null | cmp - "$work/sector" >"$work/patched" 2>&1 || true

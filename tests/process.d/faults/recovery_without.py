@@ -251,13 +251,14 @@ def try_refusal(row):
     place.put_back("stopped")
     take_away(gone)
     before = kept()
-    # Of each image that is named the file is opened, and synced as often as it is named.
+    # Of each image that is named the file is opened. As often as it is named, it is looked at whether something else uses
+    # it, it is synced, and its last sector is read.
     pending = run(["pending"], shelf=False)[1]
     named = [name for name in re.findall(r"[\w-]+\.img", pending) if name in images()]
-    settling = len(set(named)) + len(named)
+    settling = len(set(named)) + 3 * len(named)
     shown = "?" if number == "2" else key
     check(f"'{row.strip()}'", lose(f"{provider} {key}"), (1, f"{shown} refused {number}\n", ""))
-    check(f"'{row.strip()}' only settles images", place.count(), settling)
+    check(f"'{row.strip()}' only settles images, and looks at them", place.count(), settling)
     check(f"'{row.strip()}' writes nothing", kept() == before, True)
 
 

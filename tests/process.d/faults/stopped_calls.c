@@ -82,3 +82,10 @@ __attribute__((destructor)) static void end(void)
     fprintf(file, "%ld", calls);
     fclose(file);
 }
+
+/* The numbers that are drawn are the same each time. */
+int getentropy(void *bytes, size_t count)
+{
+    memset(bytes, 1, count);
+    return 0;
+}

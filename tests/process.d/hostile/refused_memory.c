@@ -4,6 +4,7 @@
 #include <fcntl.h>
 #include <stddef.h>
 #include <stdlib.h>
+#include <string.h>
 #include <unistd.h>
 
 extern void *__libc_malloc(size_t);
@@ -80,4 +81,11 @@ __attribute__((destructor)) static void end(void)
     if (write(descriptor, text + at, sizeof text - at) < 0)
         _exit(99);
     close(descriptor);
+}
+
+/* The numbers that are drawn are the same each time. */
+int getentropy(void *bytes, size_t count)
+{
+    memset(bytes, 1, count);
+    return 0;
 }

@@ -215,4 +215,96 @@ expect_over_bench <<'END'
 adopt gm2 p.img q.img r.img t.img|ok|
 adopt gm2 p.img r.img t.img|lost|q.img is of the same mirror: adopt it too
 END
+
+# ---- images that went on alone
+
+# Images of gm4: u.img is the source by its priority. v.img and x.img are ACTIVE too, and differ from it in all sectors, or in
+# one. y.img is being filled, and z.img out of use.
+fresh_bench alone
+images=$bench/images
+set -- 20 gm4 36 '\012' 44 '\005'
+put_edited "$images/u.img" d "$@" 53 '\011'
+put_edited "$images/v.img" e "$@" 40 '\002'
+put_edited "$images/x.img" d "$@" 40 '\003'
+put_edited "$images/y.img" e "$@" 40 '\004' 87 '\002'
+put_edited "$images/z.img" e "$@" 40 '\005' 87 '\010'
+damage "$images/x.img" 1024 y
+set --
+batch "$label"
+keep_bench
+alone='both may have gone on alone, and a sync writes over it'
+title='an adoption takes other data than the source has'
+expect_over_bench <<END
+adopt gm4 u.img v.img x.img y.img z.img|lost|v.img is ACTIVE and differs from the source in 3 sectors, first 0: $alone;x.img is ACTIVE and differs from the source in 1 sector, first 2: $alone
+adopt gm4 z.img x.img y.img u.img|lost|v.img is of the same mirror: adopt it too;x.img is ACTIVE and differs from the source in 1 sector, first 2: $alone
+adopt gm4 v.img x.img y.img z.img|lost|u.img is of the same mirror: adopt it too;x.img is ACTIVE and differs from the source in 3 sectors, first 0: $alone
+END
+cp "$work/kept-images/u.img" "$work/u.img"
+for image in v.img x.img; do
+    dd if="$work/u.img" of="$work/kept-images/$image" bs=512 count=3 conv=notrunc 2>/dev/null
+done
+title='but not those of images that are not ACTIVE, or that are equal'
+expect_over_bench <<'END'
+adopt gm4 u.img v.img x.img y.img z.img|ok|
+END
+edit_sector "$work/kept-images/u.img" 49 '\002'
+rehash "$work/kept-images/u.img"
+damage "$work/kept-images/v.img" 0 z
+title='nor those of images that are older than the source'
+expect_over_bench <<'END'
+adopt gm4 u.img v.img x.img y.img z.img|ok|
+END
+
+# ---- metadata that a mirror may need
+
+# gm0, whose mid is 7, is registered on a.img, and has genid 1. Other images: of gm5 c.img says no flag, d.img DIRTY, e.img
+# INACTIVE and f.img SYNCHRONIZING; of gm0 g.img is BROKEN, and h.img isn't; i.img is of another mirror gm0, with genid 0 too;
+# j.img names another image, k.img is damaged, and l.img is of version 3.
+fresh_bench needed
+images=$bench/images
+batch "${label}${insert}k3 lost gm0 b.img\nk4 forget gm0\n"
+set -- 20 gm5 36 '\005'
+put_edited "$images/c.img" d "$@"
+put_edited "$images/d.img" d "$@" 87 '\001'
+put_edited "$images/e.img" d "$@" 87 '\010'
+put_edited "$images/f.img" d "$@" 87 '\002'
+put_edited "$images/g.img" d 40 '\003'
+put_edited "$images/h.img" d 40 '\003' 45 '\001'
+put_edited "$images/i.img" d 36 '\010'
+put_edited "$images/j.img" d "$@" 95 other
+put_edited "$images/k.img" d "$@"
+overwrite "$images/k.img" 45 '\001'
+put_edited "$images/l.img" d "$@"
+make_older "$images/l.img" 3
+set --
+keep_bench
+needed='no registry adopts it without its metadata'
+title='a clear wipes metadata of an image that is ACTIVE'
+expect_over_bench <<END
+clear c.img|lost|c.img says it is ACTIVE in gm5: $needed
+clear d.img|lost|d.img says it is ACTIVE in gm5: $needed
+clear h.img|lost|h.img says it is ACTIVE in gm0: $needed
+clear i.img|lost|i.img says it is ACTIVE in gm0: $needed
+clear j.img|lost|j.img says it is ACTIVE in gm5: $needed
+clear l.img|lost|l.img says it is ACTIVE in gm5: $needed
+END
+put_back
+at_bench do k9 clear c.img
+expect_kept 'and does nothing'
+at_bench do --force k9 clear c.img
+expect 'unless it is forced' 0 'k9 ok 5' ''
+title='it wipes others unasked'
+expect_over_bench <<'END'
+clear e.img|ok|
+clear f.img|ok|
+clear g.img|ok|
+clear k.img|ok|
+clear a.img|refused 9|
+clear x.img|refused 8|
+END
+put_back
+at_bench clear c.img
+[ "$status" = 1 ] && grep -qxF "g000005 not done" "$work/output" && pass 'by itself it asks too' ||
+    fail 'by itself it asks too' "$(cat "$work/output" "$work/complaints")"
+expect_kept 'then too nothing is done'
 finish

@@ -32,7 +32,7 @@ expect_line 'a key that is none' 1 '{"answer":"refused","key":"?","number":2}'
 at_bench do --json k2 nothing
 expect_line 'words that are no command' 1 '{"answer":"refused","key":"k2","number":1}'
 expect_kept 'nothing of that was done'
-at_bench insert --json --force gm0 b.img
+at_bench insert --json --force --did 2 gm0 b.img
 expect_line 'a command by itself' 0 '{"answer":"ok","key":"g000002","seq":2}'
 at_bench advance --json --key k3 gm0 b.img
 expect_line 'how far a copy is' 0 '{"answer":"ok","copied":3,"key":"k3","of":3,"seq":3}'
@@ -168,7 +168,7 @@ run pending --json --registry "$registry"
 expect 'what is pending' 0 '{"pending":[{"of":"b.img","write":"clear"},{"of":"a.img","write":"metadata"}]}' ''
 at_bench pending --json
 expect 'the same beside its images' 0 '{"pending":[{"images":[{"image":"b.img","standing":"member"}],"of":"b.img","write":"clear"},'\
-'{"images":[{"image":"a.img","standing":"member"}],"of":"a.img","write":"metadata"}]}' ''
+'{"images":[{"image":"a.img","standing":"member"}],"of":"a.img","write":"metadata"}],"strange":[]}' ''
 expect_kept 'nothing is carried out'
 at_bench recover --json
 expect 'it is carried out' 0 '{"recovered":2}' ''
@@ -180,7 +180,7 @@ if command -v sqlite3 >/dev/null; then
     at_bench pending --json
     expect 'the same beside its images, a copy' 0 '{"pending":[{"from":0,"images":[{"image":"a.img","standing":"as registered"},'\
 '{"image":"b.img","standing":"as registered"}],"of":"a.img","sectors":3,"to":"b.img","write":"copy"},'\
-'{"images":[{"image":"b.img","standing":"as registered"}],"of":"b.img","write":"metadata"}]}' ''
+'{"images":[{"image":"b.img","standing":"as registered"}],"of":"b.img","write":"metadata"}],"strange":[]}' ''
     at_bench recover --json --without a.img --key k9
     expect_line 'a loss that is refused' 1 '{"answer":"refused","key":"k9","number":17}'
     rm "$bench/images/b.img"

@@ -25,7 +25,7 @@ if has_python 'the prose of the documents'; then
     expect_told 'as many words as a page may have' "    $(words 550)" ''
     expect_told 'a word more' "    $(words 551)" "failed $page has at most 550 words: it has 551"
     rm "$refused/docs/USE.md"
-    expect_told 'a page that is gone' '' 'failed docs/USE.md has at most 5150 words: there is no such page'
+    expect_told 'a page that is gone' '' 'failed docs/USE.md has at most 5400 words: there is no such page'
     : >"$refused/docs/USE.md"
 
     wide=$(printf '%0100d' 0)

@@ -195,7 +195,7 @@ F2: $work/none isn't a registry: no database begins as it does"
     rm "$bench/images/b.img"
     at_terminal 80 recover --registry "$registry" --shelf "$bench/images"
     expect 'an image that is gone' 3 '' "gmbench: F5 absent b.img
-F5: b.img isn't there in its size, and a write to it is pending
+F5: b.img isn't there as it was left, and a write to it is pending
 F5: put it back, or recover --without b.img --key KEY gives it up"
     fresh_bench there
     batch "$label$insert"

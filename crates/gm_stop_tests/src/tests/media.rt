@@ -7,7 +7,7 @@ use super::{got, must};
 use gm_bench::{Answer, Bench, BenchFault, Phase};
 use gm_refusals::{CallRefusal, Refusal};
 use gm_shelf::{MemShelf, Shelf};
-use gm_test_bench::{try_accept, try_apply, try_open, try_settle};
+use gm_test_bench::{must_be_left, try_accept, try_apply, try_open, try_settle};
 use gm_test_media::{ALL, StoreBytes};
 use sqlite::{Alter, Connection, Files, Options};
 use sqlite_disk::Disk;
@@ -267,11 +267,12 @@ fn find<S: Alter + Drop, H: Shelf + Drop>(
 
 fn look_at<S: Alter + Drop, H: Shelf + Drop>(
     rt: &(impl Abort + AllocGlobal),
-    store: Connection<S>,
-    shelf: H,
+    mut store: Connection<S>,
+    mut shelf: H,
     script: Script,
     done: u64,
 ) -> Found {
+    got(rt, must_be_left(rt.alloc(), &mut store, &mut shelf));
     match got(rt, try_open(rt.alloc(), store, shelf)) {
         Ok(bench) => find(rt, bench, script, done),
         Err(_) => panic!(rt; "a fault at the opening"),

@@ -8,9 +8,10 @@ returns-in-Some-2-clause-asks g c =
     let field : length_by (map (header_bytes c.args.bytes.now.items) c.args.headers.now)
     ≡ Some c.in-Some.length = search rules in
     let whole : c.args.start + c.in-Some.length ≤ length c.fill.new.bytes.items = search rules in
-    let call : Some (texts_in c.in-Some-2.call) ≡ call_of (slice_range c.fill.new.bytes.items
-    c.args.start (c.args.start + c.in-Some.length)) = search rules in
-    whole_body _ _ _ _ _ _ _ _ c.in_ok-fill.ensures.takes c.requires.start small whole field
+    let call : Some (texts_in c.in-Some-2.call) ≡ call_of c.args.takes_force
+    (slice_range c.fill.new.bytes.items c.args.start (c.args.start + c.in-Some.length)) =
+    search rules in
+    whole_body _ _ _ _ _ _ _ _ _ c.in_ok-fill.ensures.takes c.requires.start small whole field
     (ap called call)
 
 pub returns-in-None-clause-asks : goal.returns-in-None-clause-asks
@@ -19,7 +20,8 @@ returns-in-None-clause-asks g c =
     let field : length_by (map (header_bytes c.args.bytes.now.items) c.args.headers.now)
     ≡ Some c.in-Some.length = search rules in
     let whole : c.args.start + c.in-Some.length ≤ length c.fill.new.bytes.items = search rules in
-    let call : None ≡ call_of (slice_range c.fill.new.bytes.items
-    c.args.start (c.args.start + c.in-Some.length)) = search rules in
-    whole_body _ _ _ _ _ _ _ _ c.in_ok-fill.ensures.takes c.requires.start small whole field
+    let call : None ≡ call_of c.args.takes_force
+    (slice_range c.fill.new.bytes.items c.args.start (c.args.start + c.in-Some.length)) =
+    search rules in
+    whole_body _ _ _ _ _ _ _ _ _ c.in_ok-fill.ensures.takes c.requires.start small whole field
     (ap called call)

@@ -1,0 +1,3 @@
+pub mod Leavings
+pub mod Losses
+pub mod Strange

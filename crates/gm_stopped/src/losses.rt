@@ -1,0 +1,67 @@
+//! Which intents a loss left that came while others were pending.
+
+ghost use Rattle.std.specs.Prelude.{◌≡◌, IfOk};
+ghost use Rattle.std.specs.List.{list_all};
+ghost use Rattle.gm_stopped.specs.Losses.{before_loss, before_own, is_own};
+
+use gm_commands::Command;
+use gm_metadata::Label;
+use gm_state::{Intent, State};
+use std::alloc::{AllocError, Global};
+
+// Whether the intent writes the metadata of a component of the mirror.
+fn is_own(state: &State, name: Label, intent: &Intent) -> bool
+    ensures { result ≡ is_own state.now name intent.now }
+{
+    match *intent {
+        Intent::Meta { provider } => match state.component(provider) {
+            Some(component) => component.mirror == name,
+            None => false,
+        },
+        _ => false,
+    }
+}
+
+// Whether each of these does.
+fn are_own(state: &State, name: Label, intents: &[Intent]) -> bool
+    ensures { result ≡ list_all (is_own state.now name) intents.now }
+{
+    intents.iter().all(|intent| is_own(state, name, intent))
+}
+
+// How many intents come before the last ones, if those write the metadata of the mirror's
+// components, so many.
+fn before_own(state: &State, name: Label, intents: &[Intent], count: usize) -> Option<usize>
+    ensures { result ≡ before_own state.now name intents.now count }
+{
+    if intents.len() < count {
+        return None;
+    }
+    let left = intents.len() - count;
+    if are_own(state, name, &intents[left..]) {
+        Some(left)
+    } else {
+        None
+    }
+}
+
+/// How many of these intents were pending before the last of the accepted commands, if that is a
+/// loss: all but those that it left itself, the metadata of its mirror's components. `None` if it
+/// is no loss, or these aren't the last ones.
+pub fn before_loss(
+    alloc: Global,
+    state: &State,
+    intents: &[Intent],
+    command: &Command,
+) -> Result<Option<usize>, AllocError>
+    ensures { IfOk result (λ left. left ≡ before_loss state.now intents.now command.now) }
+{
+    match command {
+        Command::Lost { name, .. } => {
+            let members = state.members(alloc, *name)?;
+            let own = members.as_slice();
+            Ok(before_own(state, *name, intents, own.len()))
+        }
+        _ => Ok(None),
+    }
+}
