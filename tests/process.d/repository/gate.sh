@@ -103,9 +103,12 @@ expect_order 'but not if all is proved anew' --anew 'ci --anew'
 cat >"$work/path/rt" <<'END'
 #!/bin/sh
 [ "$1" = ci ] || exit 0
-work() {
-    awk 'BEGIN { for (n = 0; n < 40000000; n++) m += n }' --crate-name "$@"
-}
+# Two seconds of a processor, however fast that is.
+work() (
+    ulimit -c 0
+    ulimit -t 2
+    exec awk 'BEGIN { while (1) m++ }' --crate-name "$@"
+)
 work gm_one &
 work gm_one --test &
 (mkdir -p "$told/rt-edit-1-a" && cd "$told/rt-edit-1-a" && work gm_two --incremental /tmp/rt-edits-1-a/seed) &
@@ -117,7 +120,7 @@ cat "$told/rt"
 END
 cat >"$here/tests/process" <<'END'
 #!/bin/sh
-awk 'BEGIN { for (n = 0; n < 40000000; n++) m += n }' --crate-name gm_four
+(ulimit -c 0 && ulimit -t 2 && exec awk 'BEGIN { while (1) m++ }' --crate-name gm_four)
 cat "$told/process"
 END
 say '40 passed, 0 failed\n' 0 '# words/lines\nok one\n2 passed, 0 failed\n' 0
