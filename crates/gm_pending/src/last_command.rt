@@ -3,7 +3,7 @@
 use gm_commands::Command;
 use gm_rows::{StoreFault, text_at, u32_at};
 use gm_state::{Intent, State};
-use gm_stopped::{Stopped, before_loss};
+use gm_stopped::{Stopped, stopped_by};
 use gm_words::read_words;
 use sqlite::{Alter, Connection, params};
 use std::alloc::{AllocError, Global};
@@ -44,6 +44,30 @@ fn command_at<S: Alter>(
     }
 }
 
+// The last commands, the newest first, as many as may have to be known where so many intents are
+// pending: back to the first that is no loss. One whose words spell none, and those before it, are
+// left out.
+fn last_commands<S: Alter>(
+    alloc: Global,
+    conn: &mut Connection<S>,
+    intents: usize,
+) -> Result<Vec<Command>, StoreFault> {
+    let last = last_number(conn)?;
+    let mut commands = Vec::new(alloc);
+    for back in 0..last {
+        let Some(command) = command_at(alloc, conn, last - back)? else {
+            break;
+        };
+        let was_lost = matches!(command, Command::Lost { .. });
+        commands.push(command).map_err(|_| StoreFault::Memory)?;
+        // Each loss that is passed left at least one intent of its own.
+        if !was_lost || intents < commands.len() {
+            break;
+        }
+    }
+    Ok(commands)
+}
+
 /// The command of which these intents are pending, which is stopped, by the commands that a store
 /// has: the last one, but for losses that left intents before their own. The state is the one that
 /// is registered since. `Memory`, `Store` or `Unreadable` as of any call; the store is only read.
@@ -53,26 +77,6 @@ pub fn stopped_in<S: Alter>(
     state: &State,
     intents: &[Intent],
 ) -> Result<Stopped, StoreFault> {
-    let last = last_number(conn)?;
-    let mut left = intents;
-    for back in 0..last {
-        let command = command_at(alloc, conn, last - back)?;
-        let before = match &command {
-            Some(command) => before_loss(alloc, state, left, command)?,
-            None => None,
-        };
-        match before {
-            Some(before) if 0 < before => left = &left[..before],
-            _ => {
-                return Ok(Stopped {
-                    command,
-                    losses: back,
-                });
-            }
-        }
-    }
-    Ok(Stopped {
-        command: None,
-        losses: last,
-    })
+    let commands = last_commands(alloc, conn, intents.len())?;
+    Ok(stopped_by(alloc, state, intents, commands)?)
 }

@@ -1,3 +1,4 @@
 pub mod Common
 pub mod Listing
 pub mod Truth
+pub mod Walking

@@ -1,5 +1,5 @@
 -- What is listed of writes one after the other, over a shelf that is only read meanwhile.
-use Rattle.gm_stopped.proofs.Common.{◌≡◌, ◌∙◌, ◌⊎◌, ⊎_elim, inl, inr, refl, Has-append_left, Has-append_right, ℕ, ◌+◌, ◌-◌, ◌<◌, ◌==◌, if◌then◌else◌, List, [], ◌∷◌, ◌++◌, Option, Some, None, length, take, get_or, sym, ap, subst, Image, Sizes, Same, Has, Has-push, take_more, last_sector}
+use Rattle.gm_stopped.proofs.Common.{◌≡◌, ◌∙◌, ◌⊎◌, ⊎_elim, inl, refl, Has-append_left, Has-append_right, ℕ, ◌+◌, ◌-◌, ◌<◌, ◌==◌, if◌then◌else◌, List, [], ◌∷◌, ◌++◌, Option, Some, None, length, take, get_or, sym, ap, subst, Image, Sizes, Same, Has, Has-push, take_more, last_sector}
 use Rattle.std.specs.Option.{option_and_then}
 use Rattle.gm_state.specs.declared.intents.Intent.{Intent}
 use Rattle.gm_state.specs.Records.{Records}

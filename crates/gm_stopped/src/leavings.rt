@@ -133,7 +133,12 @@ fn is_same(one: &[u8; 512], other: &[u8; 512]) -> bool
 
 // Whether the sector, of which this was read, is full with these metadata, but for a genid that is
 // less by so much at most.
-fn is_at_most_older(registered: &Metadata, losses: u32, last: &[u8; 512], found: &Metadata) -> bool
+fn is_at_most_older(
+    registered: &Metadata,
+    losses: usize,
+    last: &[u8; 512],
+    found: &Metadata,
+) -> bool
     ensures { result ≡ is_at_most_older registered.now losses last.now (Ok found.now) }
 {
     let older = Metadata {
@@ -141,12 +146,12 @@ fn is_at_most_older(registered: &Metadata, losses: u32, last: &[u8; 512], found:
         ..*registered
     };
     found.genid <= registered.genid
-        && u64::from(registered.genid) <= u64::from(found.genid) + u64::from(losses)
+        && (registered.genid - found.genid) as usize <= losses
         && is_same(last, &encode(&older))
 }
 
 // Whether the sector is full with these metadata, but for a genid that is less by so much at most.
-fn says_but_losses(registered: &Metadata, losses: u32, last: &[u8; 512]) -> bool
+fn says_but_losses(registered: &Metadata, losses: usize, last: &[u8; 512]) -> bool
     ensures { result ≡ says_but_losses registered.now losses last.now }
 {
     match decode(last) {
@@ -171,7 +176,7 @@ fn filled_to(mirror: &Mirror, component: &Component, forced: bool, first: u32) -
 
 // Whether a component that is filled may be what was left.
 fn may_be_target(
-    losses: u32,
+    losses: usize,
     mirror: &Mirror,
     component: &Component,
     first: u32,

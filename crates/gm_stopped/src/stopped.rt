@@ -13,7 +13,7 @@ pub struct Stopped {
     /// `None` if it isn't known: then no image passes for its sake.
     pub command: Option<Command>,
     /// How many losses came after it.
-    pub losses: u32,
+    pub losses: usize,
 }
 
 /// How a pending write needs an image.

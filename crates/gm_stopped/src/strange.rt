@@ -15,11 +15,11 @@ use gm_state::{Intent, State};
 use gm_taste::Provider;
 use std::alloc::{AllocError, Global};
 
-// An image that a pending write names, and how that needs it.
+/// An image that a pending write names, and how that needs it.
 #[derive(Clone, Copy)]
-struct Need {
-    image: Label,
-    role: Role,
+pub struct Need {
+    pub image: Label,
+    pub role: Role,
 }
 
 // Which image a write names first, and how it needs it.

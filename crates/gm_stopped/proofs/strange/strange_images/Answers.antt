@@ -1,4 +1,4 @@
-use Rattle.gm_stopped.proofs.Common.{◌≡◌, ◌∙◌, ◌⊎◌, ⊎_elim, inl, inr, ℕ, ◌≤◌, List, take, take_all, sym, subst, arith, Has, only_then}
+use Rattle.gm_stopped.proofs.Common.{◌≡◌, ◌∙◌, ⊎_elim, inl, inr, List, take_all, sym, subst, arith, Has, only_then}
 use Rattle.gm_state.specs.declared.intents.Intent.{Intent}
 use Rattle.gm_stopped.proofs.Listing.{told_more, others_more, to_before, strange_after}
 use Rattle.gm_stopped.specs.Strange.{HasStrange, IsStrangeTo}
