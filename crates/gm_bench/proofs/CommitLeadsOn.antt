@@ -1,5 +1,7 @@
 -- A commit leads to the step of its command.
-use Rattle.gm_bench.proofs.Common.{◌≡◌, ◌∙◌, ℕ, ◌+◌, ◌-◌, List, [], ◌∷◌, ◌++◌, map, length, refl, sym, ap, subst, arith, append-nil, IsSome, IsPermutation, length-map, IsPermutation-refl, IsPermutation-cons, length_permutation, Image, Sizes, Bears, Command, Reply, words_of, IsAtHand, IsRedo, Records, Tables, CommandRow, answer_row, intent_rows, patch_rows, World, Answered, present, some_there, reply_to, Changed, Makes, changed_by, Plan, answer, seen_of, with_accepted, command_row, HoldState, change_held, change_intents, change_commands, change_patches, Leads, KeepsClaims, EachNewClaims}
+use Rattle.gm_bench.proofs.Common.{◌≡◌, ◌∙◌, ℕ, ◌+◌, ◌-◌, List, [], ◌∷◌, ◌++◌, map, length, refl, sym, ap, subst, arith, append-nil, IsSome, IsPermutation, length-map, IsPermutation-refl, IsPermutation-cons, length_permutation, Image, Sizes, Bears, Command, Reply, words_of, IsAtHand, IsRedo, Records, Tables, CommandRow, answer_row, intent_rows, patch_rows, World, Answered, present, some_there, intents_of, reply_to, Changed, Makes, changed_by, Plan, answer, seen_of, with_accepted, command_row, HoldState, change_held, change_intents, change_commands, change_patches, Leads, KeepsClaims, EachNewClaims}
+use Rattle.gm_rules.proofs.GrownRecords.{grows}
+use Rattle.gm_bench.proofs.ComesOf.{step_comes}
 use Rattle.gm_bench.proofs.ShelfProviders.{at_hand_up, masked}
 use Rattle.gm_bench.proofs.ClaimsBefore.{claims_before}
 use Rattle.gm_bench.proofs.WorldAtRest.{at_rest}
@@ -97,4 +99,7 @@ module _ (u w : World) (key : List ℕ) (c : Command) (ch : Changed) (t : Tables
     copies = plan.copies;
     old = claims_before u w l.sound key ch.intents ch.bytes c plan x (at_rest t x u l);
     new = new_claims;
+    comes = step_comes u w key c (reply_to c u.state) ch.intents x plan.step plan.sound
+        (grows u w key c (reply_to c u.state) l.sound plan.sound plan.step)
+        (makes.intents ∙ ap (intents_of c u.state) (sym plan.step.records)) (at_rest t x u l);
   }

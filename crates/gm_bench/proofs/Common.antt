@@ -66,6 +66,7 @@ pub use Rattle.gm_registry.specs.Registry.{LeavesAlone, Reads, Writes}
 pub use Rattle.gm_bench.specs.Accepting.{LeavesStep, IsAnswered, IsDone, HasNothingElse, WaitsFor, left_by, OrStep}
 pub use Rattle.gm_bench.specs.AdoptScope.{adopted_from, compared_with}
 pub use Rattle.gm_bench.specs.Benches.{progress_of, registry_of, shelf_of, redone_of}
+pub use Rattle.gm_bench.specs.Between.{ComesOf, IsBetween, IsOfLoss, IsOfStep, PendingSince, SaysSince, of_genid}
 pub use Rattle.gm_bench.specs.Calls.{HasNothingPending, LooksOn, OnlyLooks, OnlyLooksUp, TellsUnreadable, TellsDisk, most_rows, GoesOn, ClosesOnFault, Keep, TellsOfRecords, TellsStore}
 pub use Rattle.gm_bench.specs.Faults.{IsBeforeWrites, IsOfOpening, of_store, of_shelf, IsOfRegistry}
 pub use Rattle.gm_bench.specs.FoundKeys.{IsExpected, TellsKey, TellsRoom}

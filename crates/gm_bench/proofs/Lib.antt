@@ -5,6 +5,7 @@ pub mod CarriedOut
 pub mod CarriedIntents
 pub mod Causes
 pub mod ClaimsBefore
+pub mod ComesOf
 pub mod CommitLeadsOn
 pub mod Commits
 pub mod Common
@@ -21,6 +22,7 @@ pub mod JudgedByKey
 pub mod LookingOnly
 pub mod Looks
 pub mod LossCarried
+pub mod LossComesOf
 pub mod LossCommits
 pub mod LossIntents
 pub mod LossJudged

@@ -1,5 +1,5 @@
 -- Calls that only look at both media, one after the other.
-use Rattle.gm_bench.proofs.Common.{◌≤◌, Result, arith, Ghosts, Tables, DiskKept, HasTables, only_then, BenchFault, Media, OnlyLooks}
+use Rattle.gm_bench.proofs.Common.{Result, arith, Ghosts, Tables, DiskKept, HasTables, only_then, BenchFault, Media, OnlyLooks}
 use Rattle.gm_shelf.specs.declared.shelf.Shelf.{Ghosts as ShelfGhosts}
 use Rattle.gm_bench.proofs.DecidesOnly.{reads_then}
 use Rattle.gm_bench.proofs.StoreFails.{failed_later}

@@ -1,5 +1,6 @@
 -- What is pending after a loss can be read again.
-use Rattle.gm_bench.proofs.Common.{◌≡◌, ◌≢◌, ◌∙◌, ◌⊎◌, inl, inr, ⊎_elim, ℕ, ◌+◌, ◌-◌, ◌&&◌, ◌==◌, eqb-true, true, false, not, refl, sym, ap, subst, arith, List, [], ◌∷◌, filter, length, Option, Some, None, IsSomeAnd, list_any, cases_Bool, and_parts, same_label, Lost, Intent, Meta, Clear, Copy, Dirty, Patch, Mirror, Component, InSync, Has, put, Records, IsState, members, name, provider, component_of, mirror_of, IsOf, is_copy, is_patch, IsCopyWithin, IsPatchWithin, IsReadable, IsOfRange, AreOfOnePatch, AreReadable, World, Sound, not_both, option_cases, found, found_none, find_none, find_one, some_any, same_from, same_is, differ, same_tells, without_patch, member, one, put_there, put_or, put_stays, Has-filter, filter-Has, metas, Plan, writes_to, redirected, remaining, left_to_lay, pending_after, HasNext, Has-append}
+use Rattle.gm_bench.proofs.Common.{◌≡◌, ◌≢◌, ◌∙◌, ◌⊎◌, inl, inr, ⊎_elim, ℕ, ◌+◌, ◌-◌, ◌&&◌, ◌==◌, eqb-true, true, false, not, refl, sym, ap, subst, arith, List, [], ◌∷◌, filter, length, Option, Some, None, IsSomeAnd, list_any, cases_Bool, and_parts, same_label, Lost, Intent, Meta, Clear, Copy, Dirty, Patch, Mirror, Component, InSync, Has, put, Records, IsState, members, name, provider, component_of, mirror_of, IsOf, is_copy, is_patch, IsCopyWithin, IsPatchWithin, IsReadable, IsOfRange, AreOfOnePatch, AreReadable, World, Sound, Step, Reply, not_both, option_cases, found, found_none, find_none, find_one, some_any, same_from, same_is, differ, same_tells, without_patch, member, one, put_there, put_or, put_stays, Has-filter, filter-Has, metas, Plan, writes_to, redirected, remaining, left_to_lay, pending_after, HasNext, Has-append}
+use Rattle.gm_state.specs.declared.intents.Reply.TheVariants.{Plain}
 use Rattle.gm_state.proofs.CopyFound.{component_named}
 use Rattle.gm_bench.proofs.LossRemaining.{has_remaining, ordered_after, unpatched_after, uncopied_after, range_stays, one_copy_after, has_meta}
 
@@ -8,6 +9,9 @@ apart_from a b e s = not_both (same_label a b) (same_from a b s) e
 
 -- What `lost` of p makes of w.
 pub record IsLoss (w v : World) (m : Mirror) (p : List ℕ) : Type 0 where
+  pub key : List ℕ
+  pub reply : Reply
+  pub step : Step w key (Lost m.name (p ∷ [])) v reply
   pub here : Has w.state.mirrors m
   pub mirrors : (a : Mirror) → Has v.state.mirrors a
       → (a ≡ record m { genid = m.genid + 1 }) ⊎ ((a.name ≢ m.name) × Has w.state.mirrors a)
@@ -333,6 +337,10 @@ module _ (w v : World) (key n p : List ℕ) (ts : List Intent) (m : Mirror) (sou
 
   pub loss_of : IsLoss w v m p
   loss_of = record {
+    key = key;
+    reply = Plain;
+    step = subst (λ (q : List ℕ). Step w key (Lost q (p ∷ [])) v Plain)
+        (sym (same_is m.name n there.1)) plan.step;
     here = there.0;
     mirrors = mirror_or;
     mirror_stays = bumped_there;

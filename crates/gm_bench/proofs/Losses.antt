@@ -5,6 +5,7 @@ use Rattle.gm_metadata.specs.declared.version.Version.TheVariants.{Four}
 use Rattle.gm_metadata.proofs.Laid.{named, encoded_is_full}
 use Rattle.gm_state.specs.declared.records.Disk.{Disk}
 use Rattle.gm_state.proofs.ReadableIntents.{lent as lends_on}
+use Rattle.gm_bench.proofs.LossComesOf.{loss_comes}
 use Rattle.gm_bench.proofs.LossLists.{last_is, last_at, range_of}
 use Rattle.gm_bench.proofs.LossReadable.{IsLoss, apart_from, home, left_or_none, stays_home, are_readable}
 use Rattle.gm_bench.proofs.LossRemaining.{has_remaining, same_names, place_stays, copied_before, has_meta, meta_has, any_copies_metas, remaining_has}
@@ -683,4 +684,5 @@ module _ (u w v : World) (m : Mirror) (p next : List ℕ) (loss : IsLoss w v m p
       old = λ a c d o ok bears named mid active clean i low.
           k.old a c d o ok bears named mid active clean i low ∙ sym (data_stay a.name d.syncid i);
       new = new_loss;
+      comes = loss_comes u w v m p next loss ts bytes y away before l k.comes;
     }

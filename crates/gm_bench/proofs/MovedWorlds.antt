@@ -1,5 +1,5 @@
 -- Worlds whose providers went away or came back.
-use Rattle.gm_bench.proofs.Common.{◌≡◌, ◌∙◌, ◌⊎◌, inl, inr, ℕ, Bool, Option, Some, None, List, [], ◌∷◌, refl, sym, subst, if◌then◌else◌, is_some, Image, Sizes, Intent, Reply, Tables, World, present, Step, Call, AreAmong, Leads, KeepsClaims, Entry, Handed_in, Without, IsButMoved, IsStepTo, IsStepWithout, Reached, IsLastStep, ArePending}
+use Rattle.gm_bench.proofs.Common.{◌≡◌, ◌∙◌, ◌⊎◌, inl, inr, ℕ, zero, suc, Bool, true, false, Option, Some, None, List, [], ◌∷◌, refl, sym, subst, if◌then◌else◌, is_some, Image, Sizes, Intent, Reply, Tables, World, present, Step, Call, AreAmong, Leads, KeepsClaims, ComesOf, IsBetween, PendingSince, Entry, Handed_in, Without, IsButMoved, IsStepTo, IsStepWithout, Reached, IsLastStep, ArePending}
 
 -- the world in which these providers are there
 abbrev pub with_there : World → (List ℕ → Bool) → World
@@ -108,6 +108,66 @@ moved_leads t ts bytes x w there l = record {
   redo = l.redo;
 }
 
+-- what is pending comes of the same commands
+pending_moved : (n : ℕ) (begun : Bool) (u w : World) (ts : List Intent) (there : List ℕ → Bool)
+    → PendingSince n begun u w ts → PendingSince n begun u (with_there w there) ts
+pending_moved zero false u w ts there p = p
+pending_moved zero true u w ts there p = record {
+  key = p.key;
+  command = p.command;
+  stepped = p.stepped;
+  reply = p.reply;
+  step = p.step;
+  sound = p.sound;
+  state = p.state;
+  answered = p.answered;
+  intents = p.intents;
+}
+pending_moved (suc n) begun u w ts there (v, before, p, loss) = (
+  v,
+  before,
+  p,
+  record {
+    sound = loss.sound;
+    key = loss.key;
+    name = loss.name;
+    provider = loss.provider;
+    next = loss.next;
+    stepped = loss.stepped;
+    reply = loss.reply;
+    step = loss.step;
+    sound_after = loss.sound_after;
+    state = loss.state;
+    answered = loss.answered;
+    intents = loss.intents;
+  },
+)
+
+pub moved_comes : (ts : List Intent) (x : Image) (u w : World) (there : List ℕ → Bool)
+    → ComesOf ts x u w → ComesOf ts x u (with_there w there)
+moved_comes ts x u w there c = record {
+  losses = c.losses;
+  begun = c.begun;
+  pending = pending_moved c.losses c.begun u w ts there c.pending;
+  rises = c.rises;
+  lasts = λ q j last place. still q (x q j) (c.lasts q j last place);
+}
+  where
+    still : (q s : List ℕ) {j : ℕ} → IsBetween c.begun u w ts q j s
+        → IsBetween c.begun u (with_there w there) ts q j s
+    still q s (inl old) = inl old
+    still q s (inr (inl wiped)) = inr (inl wiped)
+    still q s (inr (inr says)) = inr (inr (record {
+      mirror = says.mirror;
+      component = says.component;
+      is = says.is;
+      on = says.on;
+      genid = says.genid;
+      since = says.since;
+      at_most = says.at_most;
+      says = says.says;
+    }))
+
 pub moved_keeps : (ts : List Intent) (x : Image) (u w : World) (there : List ℕ → Bool)
     → KeepsClaims ts x u w → KeepsClaims ts x u (with_there w there)
 moved_keeps ts x u w there k = record {
@@ -117,6 +177,7 @@ moved_keeps ts x u w there k = record {
   copies = k.copies;
   old = k.old;
   new = k.new;
+  comes = moved_comes ts x u w there k.comes;
 }
 
 -- the providers have their sizes for ever

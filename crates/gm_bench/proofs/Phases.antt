@@ -1,5 +1,5 @@
 -- Which phase a bench is in that may be asked something, and isn't in the phase for it.
-use Rattle.gm_bench.proofs.Common.{◌≡◌, ◌∙◌, inl, inr, ℕ, refl, sym, ap, subst, Result, Ok, Err, IsErrOf, OnErr, OnOk, Reply, Work, Progress, Ready, Pending, Applied, Failed, Accepted, Answer, Done, Repeated, Sizes, IsWorkAtHand, AreAtHand, IsUndone, TakesCommands, TakesNext, answer_of, phase_carried, phase_of, progress_after}
+use Rattle.gm_bench.proofs.Common.{◌≡◌, ◌∙◌, inl, inr, ℕ, refl, sym, ap, subst, Result, Ok, Err, IsErrOf, OnErr, OnOk, Reply, Work, Progress, Ready, Pending, Applied, Failed, Accepted, Answer, Done, Repeated, Sizes, IsWorkAtHand, AreAtHand, TakesCommands, TakesNext, phase_carried, phase_of, progress_after}
 use Rattle.gm_bench.specs.declared.answer.Accepted.TheVariants as accepted
 use Rattle.gm_bench.specs.declared.answer.Answer.TheVariants.{Refused}
 use Rattle.gm_bench.specs.declared.phase.Phase.TheVariants as phase

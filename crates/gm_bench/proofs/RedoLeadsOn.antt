@@ -2,6 +2,7 @@
 use Rattle.gm_bench.proofs.Common.{◌≡◌, ◌∙◌, ◌+◌, ◌-◌, Some, inl, inr, ℕ, List, refl, sym, ap, subst, arith, Image, Sizes, View, From, IsLawful, Intent, Meta, is_place, IsAtHand, IsRedo, InOrder, Agrees, Records, Tables, Has, World, present, claimed, Continues, IsPartlyDone, PlacesAreNew, copies_data, AreAmong, whole, Leads, KeepsClaims, AllLead, Cover, IsShelfOf, sound_claims, same_data}
 use Rattle.gm_apply.specs.Redo.{CrashLeaves}
 use Rattle.gm_apply.proofs.LeadsOn.{leads_on, ends_there, claims_kept, claim_kept}
+use Rattle.gm_bench.proofs.ComesOf.{partly_comes}
 use Rattle.gm_bench.proofs.ShelfProviders.{masked, are_there, have_sizes, order_of, redo_down, partly_up}
 
 -- what `apply` promises of moments, for these records, bytes, sizes and intents
@@ -71,6 +72,7 @@ module _ (t : Tables) (ts : List Intent) (bytes : List (List ℕ)) (u w : World)
             (λ b. k.new m c o none bare e ok b named mid active clean)
             (λ b i low. goes.claims m c e o ok b named mid active clean i low
             ∙ same_data w w m.name e.syncid i refl) bears;
+        comes = partly_comes ts bytes u w d x l.sound l.readable l.redo.says part k.comes;
       }
 
   module _ (old new : View) (lawful : IsLawful old) (size : Sizes) (away : Image)

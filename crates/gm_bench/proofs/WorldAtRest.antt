@@ -1,5 +1,6 @@
 -- A world at rest: no intent is pending, and the shelf is the world's.
 use Rattle.gm_bench.proofs.Common.{◌≡◌, ◌∙◌, inl, inr, ℕ, List, [], refl, sym, subst, arith, IsPermutation, is_some, IsPermutation-refl, cases_Bool, Image, Sizes, SameThere, same_label, Intent, Component, IsAtHand, without_patch, AreReadable, Tables, HoldRecords, Has, World, Sound, sound_claims, found_none, not_both, same_refl, member, AreAmong, whole, Leads, KeepsClaims}
+use Rattle.gm_bench.proofs.ComesOf.{rest_comes, settled_comes}
 use Rattle.gm_bench.proofs.ShelfProviders.{whole_there, whole_away, away_no_place}
 
 none_readable : (w : World) → AreReadable w.state [] []
@@ -42,6 +43,7 @@ rest_claims y w sound same = record {
       not_both (same_label k.provider k.provider) (same_refl k.provider)
       (found_none (λ (j : Component). same_label j.provider k.provider) w.state.components none
       k (member w.state m.name k o.component).0);
+  comes = rest_comes y w sound;
 }
 
 -- an image that leads to the world with no intent is the world's
@@ -58,6 +60,7 @@ settled_claims ts x u w k = record {
   copies = λ m c o i e. absurd (let f : ⊥ = cc in f);
   old = k.old;
   new = k.new;
+  comes = settled_comes ts x u w k.comes;
 }
 
 -- the shelf is the world's, and what is away wasn't named by any intent

@@ -1,6 +1,6 @@
 -- What a call leaves of the media and of the phase of a bench, and which faults it tells, beside
 -- what is particular to it.
-use Rattle.std.specs.Prelude.{◌≡◌, ◌≤◌, ◌<◌, ℕ, true, List, Result, IfOk, IfErr, OnOk, OnErr, IsErrOf}
+use Rattle.std.specs.Prelude.{◌≡◌, ◌≤◌, ◌<◌, ℕ, List, Result, IfOk, IfErr, OnOk, OnErr, IsErrOf}
 use Rattle.sqlite_trees.specs.declared.store.Store.{Ghosts as StoreGhosts}
 use Rattle.sqlite.specs.Held.{Held, state}
 use Rattle.gm_metadata.specs.Images.{Image, Sizes}

@@ -1,6 +1,6 @@
 -- What an opening without a provider leaves, and what it answers, from the store and the shelf
 -- before it.
-use Rattle.std.specs.Prelude.{◌≡◌, ◌⊎◌, ◌+◌, ◌^◌, ◌<◌, ◌≤◌, ℕ, List, [], None, Some, Ok, Err, Result, IfErr, IsErrOf, MatchResult, OnOk, length}
+use Rattle.std.specs.Prelude.{◌≡◌, ◌⊎◌, ◌+◌, ◌^◌, ◌<◌, ◌≤◌, ℕ, List, [], None, Some, Ok, Err, Result, IsErrOf, MatchResult, OnOk, length}
 use Rattle.sqlite_trees.specs.declared.store.Store.{Ghosts}
 use Rattle.sqlite_catalog.specs.Listing.{IsSound}
 use Rattle.sqlite.specs.Held.{Held}
@@ -18,7 +18,7 @@ use Rattle.gm_rows.specs.Schema.{first_schema, registry_schema}
 use Rattle.gm_registry.specs.Opening.{IsForeign, IsOpenable}
 use Rattle.gm_registry.specs.Fitting.{HasRoom}
 use Rattle.gm_registry.specs.Opens.{IsStored}
-use Rattle.gm_registry.specs.Registry.{DiskKept, HasTables, IsOpen, LeavesAlone, Reads, StoreFailed, WasClean, seen, stored}
+use Rattle.gm_registry.specs.Registry.{DiskKept, HasTables, IsOpen, LeavesAlone, StoreFailed, seen, stored}
 use Rattle.gm_registry.specs.Replies.{AreWrittenUnder, count_of}
 use Rattle.gm_bench.specs.declared.bench.OpenFault.{OpenFault}
 use Rattle.gm_bench.specs.declared.fault.BenchFault.{BenchFault}

@@ -1,6 +1,6 @@
 -- What a command comes to under its key, before anything is written: the abstract bench repeats or
 -- refuses it, or it can be accepted.
-use Rattle.std.specs.Prelude.{◌≡◌, ◌≤◌, ◌<◌, ℕ, true, List, Result, IfOk, IsErrOf}
+use Rattle.std.specs.Prelude.{◌≡◌, ◌<◌, ℕ, true, List, Result, IfOk, IsErrOf}
 use Rattle.std.specs.String.{string_bytes}
 use Rattle.sqlite_trees.specs.declared.store.Store.{Ghosts as StoreGhosts}
 use Rattle.gm_metadata.specs.Images.{Image, Sizes}

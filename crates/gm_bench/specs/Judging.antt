@@ -19,7 +19,7 @@ use Rattle.gm_refusals.specs.WorldFacts.{seen_of}
 use Rattle.gm_changes.specs.Decides.{Changed, Decides, changed_by}
 use Rattle.gm_rows.specs.ReadableTables.{AreRecordsOf, AreTablesOf}
 use Rattle.gm_registry.specs.Fitting.{HasRoom}
-use Rattle.gm_registry.specs.Registry.{DiskKept, HasTables, Reads, StoreFailed, seen}
+use Rattle.gm_registry.specs.Registry.{DiskKept, HasTables, StoreFailed, seen}
 use Rattle.gm_registry.specs.Replies.{AreWrittenUnder, IsFree, count_of}
 use Rattle.gm_bench.specs.declared.fault.BenchFault.{BenchFault}
 use Rattle.gm_bench.specs.declared.fault.BenchFault.TheVariants.{Absent, Store, Unreadable}

@@ -14,6 +14,7 @@ use Rattle.gm_state.specs.declared.records.Component.{Component}
 use Rattle.gm_state.specs.Intents.{IsOf}
 use Rattle.gm_state.specs.Lookups.{component_of}
 use Rattle.gm_state.specs.World.{World, Sound, Below, Claims, CopiesData, claimed}
+use Rattle.gm_bench.specs.Between.{ComesOf}
 
 -- all providers: those of these sizes as the shelf has them, the others as they are away from it
 abbrev pub whole : Sizes → Image → Image → Image
@@ -53,8 +54,8 @@ EachNewClaims u w x =
     (m : Mirror) (k : Component) → IsOf w.state m k → component_of u.state k.provider ≡ None
     → WasBare u k → ClaimsOf m k (λ syncid. w.holds m.name) x
 
--- No component of u claims in the image a sector that it lacks, nor does one that is new in w; and
--- the intents keep that on the way to w.
+-- No component of u claims in the image a sector that it lacks, nor does one that is new in w; the
+-- intents keep that on the way to w; and these and the last sectors come of what was accepted since.
 pub record KeepsClaims (ts : List Intent) (x : Image) (u w : World) : Type 0 where
   pub sound : Sound u
   pub sizes : u.size ≡ w.size
@@ -62,6 +63,7 @@ pub record KeepsClaims (ts : List Intent) (x : Image) (u w : World) : Type 0 whe
   pub copies : CopiesData u w ts
   pub old : Claims u w x
   pub new : EachNewClaims u w x
+  pub comes : ComesOf ts x u w
 
 -- with each of the shelf's images the tables and their intents lead to w, and no component claims
 -- on the way a sector that it lacks

@@ -2,6 +2,7 @@ pub mod Accepting
 pub mod AdoptScope
 pub mod Asking
 pub mod Benches
+pub mod Between
 pub mod Calls
 pub mod CarryingOut
 pub mod Faults

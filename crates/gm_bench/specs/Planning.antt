@@ -16,7 +16,6 @@ use Rattle.gm_metadata.specs.Images.{Sizes}
 use Rattle.gm_shelf.specs.declared.shelf.Shelf.{Ghosts as ShelfGhosts}
 use Rattle.gm_rules.specs.Itself.{IsItself}
 use Rattle.gm_registry.specs.FittingChanges.{FitsRecords}
-use Rattle.gm_bench.specs.declared.answer.Work.{Work}
 use Rattle.gm_bench.specs.declared.answer.Accepted.{Accepted}
 use Rattle.gm_bench.specs.declared.answer.Accepted.TheVariants.{Done}
 use Rattle.gm_bench.specs.Presence.{AreAtHand}

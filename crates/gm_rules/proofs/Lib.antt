@@ -1,10 +1,12 @@
 pub mod AdoptedEqual
 pub mod AdoptedState
+pub mod AdvancedCopy
 pub mod Common
 pub mod EnrolledMirror
 pub mod EveryPlan
 pub mod FilteredMirror
 pub mod FoundMembers
+pub mod GrownRecords
 pub mod LaidIntents
 pub mod LaidOver
 pub mod MappedMirror

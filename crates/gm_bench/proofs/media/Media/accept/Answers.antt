@@ -1,6 +1,6 @@
 use Rattle.gm_bench.proofs.Common.{rules, Err, Tables, Records, HasTables, AreRecordsOf, IsHonestToAdopt, CanBeAccepted, IsJudgedToFit, sym, ap, subst, arith, on_err_weaker, on_ok_weaker, DiskKept, saved, most_rows, LeavesStep, IsAnswered, IsWorkAtHand, Media, Reads}
 use Rattle.gm_bench.proofs.Causes.{fault_is}
-use Rattle.gm_bench.proofs.DecidesOnly.{ok_then, reads_then, still, then_step, unstepped}
+use Rattle.gm_bench.proofs.DecidesOnly.{ok_then, still, then_step, unstepped}
 use Rattle.gm_bench.proofs.StoreFails.{failed_later, goes_later, room_later}
 use Rattle.gm_bench.proofs.media.Media.accept.Goals as goal
 

@@ -80,7 +80,8 @@ returns g c =
       store = search rules;
       looks =
           looks_then g.S.Store c.args.self.now c.load.new.self c.judge_loss.new.self
-          c.judge_loss.result _ c.load.ensures.loads.shelf c.load.ensures.loads.reads c.judge_loss.ensures.looks
+          c.judge_loss.result _ c.load.ensures.loads.shelf c.load.ensures.loads.reads
+          c.judge_loss.ensures.looks
           (λ clean t has. (c.in_ok-loaded.ensures.loaded clean t has).1) (search rules);
     }
 
@@ -102,6 +103,7 @@ returns-in_err-judged g c =
           then);
       looks =
           looks_then g.S.Store c.args.self.now c.load.new.self c.judge_loss.new.self
-          c.judge_loss.result _ c.load.ensures.loads.shelf c.load.ensures.loads.reads c.judge_loss.ensures.looks
+          c.judge_loss.result _ c.load.ensures.loads.shelf c.load.ensures.loads.reads
+          c.judge_loss.ensures.looks
           (λ clean t has. (c.in_ok-loaded.ensures.loaded clean t has).1) (search rules);
     }
