@@ -4,7 +4,7 @@
 use super::{got, must};
 use gm_bench::{Answer, Bench, BenchFault, Phase, Without};
 use gm_shelf::{FaultShelf, MemShelf, Shelf};
-use gm_test_bench::{try_accept, try_open, try_run, try_view};
+use gm_test_bench::{must_be_left, try_accept, try_open, try_run, try_view};
 use gm_test_media::{ALL, Calls, StoreBytes, add, label, sector};
 use gm_words::status_text;
 use sqlite::{Alter, Connection, Files, Options};
@@ -257,6 +257,21 @@ pub(super) fn perform_over(
     let left = serve(rt, (store, shelf), NEVER, job);
     must(rt, !left.stopped, "the store stopped");
     (left.came, left.media)
+}
+
+/// What is pending in media is what a stop left: no image that it names is strange.
+pub(super) fn must_be_of_a_stop(
+    rt: &(impl Abort + AllocGlobal),
+    store: &StoreBytes,
+    shelf: &MemShelf,
+) {
+    let files = got(rt, store.files(rt.alloc(), ALL));
+    assert!(rt; files.may_be_used());
+    let Ok(mut store) = Connection::open_files(rt.alloc(), files, Options::new(1)) else {
+        panic!(rt; "no store");
+    };
+    let mut shelf = copy_of(rt, shelf);
+    got(rt, must_be_left(rt.alloc(), &mut store, &mut shelf));
 }
 
 // All four sectors of an image.

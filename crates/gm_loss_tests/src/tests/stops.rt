@@ -3,7 +3,9 @@
 //! accepted, and what is found after it is what a loss leaves that wasn't stopped.
 
 use super::found::{bare, must_be_in_sync};
-use super::media::{Came, Job, Media, NEVER, Stops, behind, crash_image, perform_over, serve};
+use super::media::{
+    Came, Job, Media, NEVER, Stops, behind, crash_image, must_be_of_a_stop, perform_over, serve,
+};
 use super::{got, must};
 use gm_bench::{Answer, BenchFault};
 use gm_shelf::MemShelf;
@@ -77,14 +79,15 @@ impl Loss {
     }
 }
 
-// The loss asked again of what a stop left, and not stopped: nothing is pending after it, and all
-// is as it is to be; what it came to.
+// The loss asked again of what a stop left, in which no image is strange, and not stopped: nothing
+// is pending after it, and all is as it is to be; what it came to.
 fn loses_again(
     rt: &(impl Abort + AllocGlobal),
     loss: Loss,
     store: &StoreBytes,
     shelf: &MemShelf,
 ) -> Came {
+    must_be_of_a_stop(rt, store, shelf);
     let (came, over) = perform_over(rt, store, shelf, Job::Lose(loss.key));
     let (looked, mut left) = perform_over(rt, &over.store, &over.shelf, Job::Look);
     must(rt, looked == Came::Opened(0), "something is pending");

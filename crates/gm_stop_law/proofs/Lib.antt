@@ -1,0 +1,14 @@
+pub mod Chain
+pub mod ClearedImage
+pub mod Common
+pub mod Later
+pub mod Law
+pub mod LeftImage
+pub mod NamedIntents
+pub mod NewImage
+pub mod NoneStrange
+pub mod OneLoss
+pub mod SaidMetadata
+pub mod SteppedFrom
+pub mod Thinning
+pub mod WalkBack
