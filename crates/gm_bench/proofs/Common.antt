@@ -82,7 +82,7 @@ pub use Rattle.gm_bench.specs.Planning.{IsPlanned, IsFitting, IsWorkAtHand, IsDe
 pub use Rattle.gm_bench.specs.Presence.{first_absent, AreAtHand, serves, is_present, absent_among, providers_in}
 pub use Rattle.gm_bench.specs.Recovering.{IsAt, LeavesOnly, Cover, IsShelfOf, IsCarriedOut, Recovers, IsFound}
 pub use Rattle.gm_bench.specs.Running.{IsRun}
-pub use Rattle.gm_bench.specs.Schedule.{Phase, Event, Accept_returned, Accept_stopped, Apply_returned, Apply_stopped, Settle_returned, Settle_stopped, Run_returned, Run_stopped, Look_returned, Look_stopped, Open_returned, Open_stopped, Now, none, skips, keeps, Moved, Without_returned, Without_stopped, Without_carrying, Entry, Handed_in, Without, IsButMoved, IsStepWithout, Reached, ArePending, LeavesCommit, IsMove, HasCount, IsLeftIn, IsStop, IsRunStop, IsDoneOver, IsOpenOver, after_answer, after_run, with_media, Happens, IsStart, Runs, AtRest, OnTheWay, Stopped, Headline, Within, IsStepTo, IsLastStep, IsNew, WithoutCarries, WithoutDoes, WithoutLeaves}
+pub use Rattle.gm_bench.specs.Schedule.{Phase, Event, Accept_returned, Accept_stopped, Apply_returned, Apply_stopped, Settle_returned, Settle_stopped, Hand_in_returned, Hand_in_stopped, Settle_waiting_returned, Settle_waiting_stopped, Run_returned, Run_stopped, Look_returned, Look_stopped, Open_returned, Open_stopped, Now, none, skips, keeps, Moved, Without_returned, Without_stopped, Without_carrying, Entry, Handed_in, Without, IsButMoved, IsStepWithout, Reached, ArePending, LeavesCommit, IsMove, HasCount, IsLeftIn, IsStop, IsRunStop, IsDoneOver, IsOpenOver, IsSoFar, after_answer, after_hand_in, after_run, with_media, Happens, IsStart, Runs, AtRest, OnTheWay, Stopped, Headline, Within, IsStepTo, IsLastStep, IsNew, WithoutCarries, WithoutDoes, WithoutLeaves}
 pub use Rattle.gm_bench.specs.ShelfFacts.{AreEqual, IsFact, Tell, TellSizes, IsHonestToAdopt}
 pub use Rattle.gm_bench.specs.Standing.{IsHandedIn, Stands, LeavesNext}
 pub use Rattle.gm_bench.specs.Stepping.{TakesCommand}

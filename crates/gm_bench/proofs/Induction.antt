@@ -1,58 +1,16 @@
 -- The induction over a schedule.
-use Rattle.gm_bench.proofs.Common.{◌≡◌, ◌∙◌, ◌⊎◌, inl, inr, ℕ, Bool, suc, ◌+◌, None, List, [], ◌∷◌, length, map, refl, sym, ap, subst, arith, if◌then◌else◌, length-map, length_permutation, Ghosts, Trees, Held, Image, Sizes, Command, Intent, Reply, answer_row, World, present, Step, Call, stored, no_tables, Accepted, Answer, Work, AcceptAnswers, IsLeft, LeavesRun, LookDoes, LookLeaves, RunAnswers, whole, Leads, KeepsClaims, AllLead, Recovers, IsCarriedOut, IsShelfOf, LeavesOnly, Waiting, LeavesStep, OrStep, WaitsFor, Phase, Event, Accept_returned, Accept_stopped, Apply_returned, Apply_stopped, Settle_returned, Settle_stopped, Run_returned, Run_stopped, Look_returned, Look_stopped, Open_returned, Open_stopped, Now, none, skips, keeps, Moved, Without_returned, Without_stopped, Without_carrying, Entry, Handed_in, Without, IsButMoved, IsStepWithout, Reached, ArePending, LeavesCommit, IsMove, HasCount, IsLeftIn, IsStop, IsRunStop, IsDoneOver, IsOpenOver, after_answer, after_run, with_media, Happens, IsStart, Runs, AtRest, OnTheWay, Stopped, Headline, Within}
+use Rattle.gm_bench.proofs.Common.{◌≡◌, ◌∙◌, ◌⊎◌, inl, inr, ℕ, Bool, suc, ◌+◌, List, [], ◌∷◌, length, refl, sym, ap, subst, arith, Ghosts, Trees, Held, Image, Sizes, Intent, Reply, World, present, Step, Call, stored, no_tables, Accepted, Answer, Work, AcceptAnswers, IsLeft, LeavesRun, LookDoes, LookLeaves, RunAnswers, whole, Leads, KeepsClaims, AllLead, Recovers, IsCarriedOut, IsShelfOf, LeavesOnly, Progress, Stands, IsHandedIn, phase_carried, phase_of, Waiting, LeavesStep, OrStep, WaitsFor, Phase, Event, Accept_returned, Accept_stopped, Apply_returned, Apply_stopped, Settle_returned, Settle_stopped, Hand_in_returned, Hand_in_stopped, Settle_waiting_returned, Settle_waiting_stopped, Run_returned, Run_stopped, Look_returned, Look_stopped, Open_returned, Open_stopped, Now, none, skips, keeps, Moved, Without_returned, Without_stopped, Without_carrying, Entry, Handed_in, Without, IsButMoved, IsStepWithout, Reached, ArePending, LeavesCommit, IsMove, IsLeftIn, IsStop, IsRunStop, IsDoneOver, IsOpenOver, IsSoFar, after_answer, after_hand_in, after_run, with_media, Happens, IsStart, Runs, AtRest, OnTheWay, Stopped, Headline, Within}
 use Rattle.gm_shelf.specs.declared.shelf.Shelf.{Ghosts as ShelfGhosts}
 use Rattle.gm_bench.specs.declared.answer.Accepted.TheVariants.{Done, Repeated, Refused}
 use Rattle.gm_bench.specs.declared.answer.Answer.TheVariants as run
+use Rattle.gm_bench.specs.declared.phase.Progress.TheVariants as far
 use Rattle.gm_bench.specs.declared.phase.Waiting.TheVariants as waiting
 use Rattle.gm_bench.proofs.Looks.{looked_at}
+use Rattle.gm_bench.proofs.AnswersCounted.{answered_many, counts, fewer, step_present}
 use Rattle.gm_bench.proofs.CarriedOut.{at_of, carried_out, done_at_rest}
 use Rattle.gm_bench.proofs.MovedWorlds.{with_there, stays, moved_from, one_step, moved_reached, moved_last, last_pending, moved_leads, moved_keeps, reached_sizes, there_of, moved_present}
 use Rattle.gm_bench.proofs.NewWorlds.{new_records, new_sound}
 use Rattle.gm_bench.proofs.WorldAtRest.{rest_leads, rest_claims}
-
--- ---- counts of commands
-
--- as many answers as accepted calls
-answered_many : (all : Sizes) (acc : List Entry) (w : World) → Reached all acc w
-    → length w.answered ≡ length acc
-answered_many all [] w new = ap length new.answered
-answered_many all (Without call p gone ∷ older) w (u, reached, s) =
-    let e = answered_many all older u reached in
-    let long : length w.answered ≡ suc (length u.answered) =
-    ap length (s.answered ∙ s.step.answered) in
-    omega (arith, e, long)
-answered_many all (Handed_in call ∷ older) w (u, reached, s) =
-    let e = answered_many all older u reached in
-    let long : length w.answered ≡ suc (length u.answered) =
-    ap length (s.moved.answered ∙ s.step.answered) in
-    omega (arith, e, long)
-
--- with fewer images it leads on as well
-fewer : (db : Trees) (size : Sizes) (away : Image) (X Y : Image → Type 0) (u w : World)
-    → Recovers db size away X u w → ((x : Image) → Y x → X x) → Recovers db size away Y u w
-fewer db size away X Y u w r less =
-    record {
-      tables = r.tables;
-      intents = r.intents;
-      bytes = r.bytes;
-      stored = r.stored;
-      leads = λ x l. r.leads x (less x l);
-    }
-
--- the tables of a store that leads to w count its answers
-counts : (db : Trees) (size : Sizes) (away : Image) (X : Image
-    → Type 0) (x : Image) (u w : World) (n : ℕ) → X x → Recovers db size away X u w → HasCount db n
-    → length w.answered ≡ n
-counts db size away X x u w n there r count =
-    let l = (r.leads x there).0 in
-    let many : length r.tables.commands ≡ length (map answer_row w.answered) =
-    length_permutation (map answer_row w.answered) r.tables.commands l.records.commands in
-    sym (length-map w.answered answer_row) ∙ (sym many ∙ count r.tables r.stored)
-
--- a step keeps the providers
-step_present : (u w : World) (key : List ℕ) (c : Command) (r : Reply) → Step u key c w r
-    → present w ≡ present u
-step_present u w key c r step = λ i q. if step.there q i then step.sizes q i else None
 
 module _ {S H : Type 0} (g : Ghosts S) (j : ShelfGhosts H) (all : Sizes) where
   abbrev At : Now (Held S) H → Type 0
@@ -348,6 +306,119 @@ module _ {S H : Type 0} (g : Ghosts S) (j : ShelfGhosts H) (all : Sizes) where
             was.told;
       })
 
+  -- ---- a command that is handed in, and then the settling of the last one
+
+  -- a bench that is so far stands for the world after the accepted calls
+  pub record HasStood (before : Progress) (r : Held S) (h : H) (away : Image)
+      (acc ack : List Entry) : Type 0 where
+    pub waiting : Waiting
+    pub was : IsReached waiting r h away acc ack
+    pub stands : Stands g j before r h away was.before was.world
+
+  abbrev stood : (m : Now (Held S) H) (before : Progress) (r : Held S) (h : H)
+      → IsSoFar m.phase before r h → At m → HasStood before r h m.away m.accepted m.acknowledged
+  stood m far.Ready r h is was =
+      let o : AtRest g j all r h m.away m.accepted m.acknowledged = subst (AtPhase m) is was in
+      record {
+        waiting = waiting.Nothing;
+        was = at_rest r h m.away m.accepted m.acknowledged o;
+        stands = (refl, o.at);
+      }
+  stood m (far.Applied work) r h is was =
+      let it : (o : OnTheWay g j all r h m.away work m.accepted m.acknowledged)
+      × IsShelfOf (j.view h) o.world (j.size h) = subst (AtPhase m) is was in
+      record {
+        waiting = waiting.Done;
+        was = reached_by m r h waiting.Done (work, is) was;
+        stands = (it.0.at, it.1);
+      }
+  stood m (far.Pending work) r h is was = absurd is
+  stood m far.Failed r h is was = absurd is
+
+  -- it stands for the same world, if nothing was done
+  stands_still : (m : Now (Held S) H) (before p : Progress) (r s : Held S) (h k : H)
+      (q : Phase (Held S) H) (is : IsSoFar m.phase before r h) (was : At m) → IsSoFar q p s k
+      → phase_of p ≡ phase_of before
+      → (let it = stood m before r h is was in
+      Stands g j p s k m.away it.was.before it.was.world) → AtPhase m q
+  stands_still m far.Ready far.Ready r s h k q is was so same stands =
+      let o : AtRest g j all r h m.away m.accepted m.acknowledged = subst (AtPhase m) is was in
+      subst (AtPhase m) (sym so)
+      (record { world = o.world; reached = o.reached; at = stands.1; told = o.told })
+  stands_still m (far.Applied work) (far.Applied left) r s h k q is was so same stands =
+      let it : (o : OnTheWay g j all r h m.away work m.accepted m.acknowledged)
+      × IsShelfOf (j.view h) o.world (j.size h) = subst (AtPhase m) is was in
+      let o = it.0 in
+      subst (AtPhase m) (sym so) (
+        record {
+          world = o.world;
+          before = o.before;
+          reached = o.reached;
+          last = o.last;
+          at = stands.0;
+          told = o.told;
+        },
+        stands.1,
+      )
+  stands_still m far.Ready (far.Applied left) r s h k q is was so same stands =
+      absurd (let no : ⊥ = cc in no)
+  stands_still m (far.Applied work) far.Ready r s h k q is was so same stands =
+      absurd (let no : ⊥ = cc in no)
+  stands_still m (far.Pending work) p r s h k q is was so same stands = absurd is
+  stands_still m far.Failed p r s h k q is was so same stands = absurd is
+  stands_still m before (far.Pending work) r s h k q is was so same stands = absurd so
+  stands_still m before far.Failed r s h k q is was so same stands = absurd so
+
+  -- it stands for the world of the step, if that was done
+  stands_next : (m : Now (Held S) H) (call : Call) (reply : Reply) (u w : World) (p : Progress)
+      (s : Held S) (k : H) (q : Phase (Held S) H) → Reached all m.accepted u
+      → Step u call.key call.command w reply → Within m.acknowledged m.accepted
+      → IsSoFar q p s k → Stands g j p s k m.away u w
+      → Headline g j all q m.away (Handed_in call ∷ m.accepted) (Handed_in call ∷ m.acknowledged)
+  stands_next m call reply u w far.Ready s k q reached step told so stands =
+      subst (λ (x : Phase (Held S) H). Headline g j all x m.away (Handed_in call ∷ m.accepted)
+      (Handed_in call ∷ m.acknowledged)) (sym so) (record {
+        world = w;
+        reached = (u, reached, one_step u w call reply step);
+        at = stands.1;
+        told = keeps told;
+      })
+  stands_next m call reply u w (far.Applied work) s k q reached step told so stands =
+      subst (λ (x : Phase (Held S) H). Headline g j all x m.away (Handed_in call ∷ m.accepted)
+      (Handed_in call ∷ m.acknowledged)) (sym so) (
+        record {
+          world = w;
+          before = u;
+          reached = (u, reached, one_step u w call reply step);
+          last = (reached, one_step u w call reply step);
+          at = stands.0;
+          told = keeps told;
+        },
+        stands.1,
+      )
+  stands_next m call reply u w (far.Pending work) s k q reached step told so stands = absurd so
+  stands_next m call reply u w far.Failed s k q reached step told so stands = absurd so
+
+  handed_in : (m n : Now (Held S) H) (call : Call) (a : Answer) (before p : Progress)
+      (r s : Held S) (h k : H) (q : Phase (Held S) H) → IsSoFar m.phase before r h → At m
+      → IsSoFar q p s k → n ≡ after_hand_in m call a q
+      → phase_of p ≡ phase_carried (phase_of before) a
+      → ((away : Image) (v u : World) → Stands g j before r h away v u
+      → IsHandedIn g j p r s h k away v u call.key call.command a) → At n
+  handed_in m n call (run.Done i reply) before p r s h k q is was so now phase clause =
+      let it = stood m before r h is was in
+      let done = clause m.away it.was.before it.was.world it.stands in
+      subst At (sym now) (stands_next m call reply it.was.world done.0 p s k q it.was.reached
+      done.1.3 it.was.told so done.3)
+  handed_in m n call (run.Repeated i reply) before p r s h k q is was so now phase clause =
+      let it = stood m before r h is was in
+      subst At (sym now) (stands_still m before p r s h k q is was so phase
+      (clause m.away it.was.before it.was.world it.stands).2)
+  handed_in m n call (run.Refused why) before p r s h k q is was so now phase clause =
+      let it = stood m before r h is was in
+      subst At (sym now) (stands_still m before p r s h k q is was so phase
+      (clause m.away it.was.before it.was.world it.stands).2)
+
   -- ---- a look
 
   abbrev looked_on : (r s : Held S) (h k : H) (away : Image) (work : Work) (acc ack : List Entry)
@@ -567,6 +638,26 @@ module _ {S H : Type 0} (g : Ghosts S) (j : ShelfGhosts H) (all : Sizes) where
       subst At (sym is) (stopped r s h h db l m.away o.0.before o.0.world m.accepted m.acknowledged
       o.0.reached (inr (last_pending all m.accepted o.0.before o.0.world o.0.last))
       o.0.at.at.sizes o.0.told (clause m.away o.0.before o.0.world o.0.at o.1) stop)
+  next m (Hand_in_returned call a p s k) n was (r, h, before, is, q, so, now, phase, clause) =
+      handed_in m n call a before p r s h k q is was so now phase clause
+  next m (Hand_in_stopped call s k db l) n was (r, h, before, is, after, now, left, leaves, stop) =
+      let it = stood m before r h is was in
+      subst At (sym now) (run_stopped call it.waiting r s h k db l m.away m.accepted
+      m.acknowledged after it.was left (leaves m.away it.was.before it.was.world it.stands)
+      (stop m.away it.was.before it.was.world it.stands))
+  next m (Settle_waiting_returned s k) n was (r, h, before, is, now, clause) =
+      let it = stood m before r h is was in
+      subst At (sym now) (record {
+        world = it.was.world;
+        reached = it.was.reached;
+        at = clause m.away it.was.before it.was.world it.stands;
+        told = it.was.told;
+      })
+  next m (Settle_waiting_stopped s k db l) n was (r, h, before, is, now, clause, stop) =
+      let it = stood m before r h is was in
+      subst At (sym now) (stopped r s h k db l m.away it.was.before it.was.world m.accepted
+      m.acknowledged it.was.reached it.was.last it.was.at.sizes it.was.told
+      (clause m.away it.was.before it.was.world it.stands) stop)
   next m (Run_returned call a s k) n was (r, h, phase, is, clause) =
       run_answered call a r s h k m n (subst (AtPhase m) phase was) is clause
   next m (Run_stopped call s k db l) n was (r, h, phase, after, is, left, leaves, stop) =

@@ -1,3 +1,4 @@
+pub mod AnswersCounted
 pub mod Asked
 pub mod CallAnswers
 pub mod Carried

@@ -24,11 +24,15 @@ use Rattle.gm_bench.specs.declared.answer.Work.{Work}
 use Rattle.gm_bench.specs.declared.answer.Accepted.{Accepted}
 use Rattle.gm_bench.specs.declared.answer.Accepted.TheVariants.{Done, Repeated, Refused}
 use Rattle.gm_bench.specs.declared.answer.Answer.TheVariants as run
+use Rattle.gm_bench.specs.declared.phase.Progress.{Progress}
+use Rattle.gm_bench.specs.declared.phase.Progress.TheVariants as far
 use Rattle.gm_bench.specs.declared.phase.Waiting.{Waiting}
 use Rattle.gm_bench.specs.declared.phase.Waiting.TheVariants as waiting
 use Rattle.gm_bench.specs.Recovering.{Recovers, IsAt, IsAtWork, IsShelfOf, LeavesOnly}
 use Rattle.gm_bench.specs.Owed.{AcceptLeaves, AcceptAnswers, ApplyLeaves, ApplyDoes, SettleLeaves, SettleDoes, OpenLeaves, OpenDoes, IsLeft, RunAnswers, RunLeaves, LeavesRun, LookDoes, LookLeaves}
 use Rattle.gm_bench.specs.declared.answer.Answer.{Answer}
+use Rattle.gm_bench.specs.Phases.{phase_carried, phase_of}
+use Rattle.gm_bench.specs.Standing.{IsHandedIn, Stands}
 
 -- How a command was accepted: handed in to a bench at rest or after a command that was carried out;
 -- or by an opening without a provider, of which these intents of earlier commands were taken out.
@@ -54,6 +58,11 @@ pub data Event (R H : Type 0) : Type 0 where
   Apply_stopped : (shelf : H) (db : Trees) (later : H) → Event R H
   Settle_returned : (registry : R) → Event R H
   Settle_stopped : (registry : R) (db : Trees) (later : H) → Event R H
+  Hand_in_returned : (call : Call) (answer : Answer) (progress : Progress) (registry : R)
+      (shelf : H) → Event R H
+  Hand_in_stopped : (call : Call) (registry : R) (shelf : H) (db : Trees) (later : H) → Event R H
+  Settle_waiting_returned : (registry : R) (shelf : H) → Event R H
+  Settle_waiting_stopped : (registry : R) (shelf : H) (db : Trees) (later : H) → Event R H
   Run_returned : (call : Call) (answer : Answer) (registry : R) (shelf : H) → Event R H
   Run_stopped : (call : Call) (registry : R) (shelf : H) (db : Trees) (later : H) → Event R H
   Look_returned : (registry : R) (shelf : H) → Event R H
@@ -106,6 +115,24 @@ after_run m call (run.Done n reply) s k =
     }
 after_run m call (run.Repeated n reply) s k = record m { phase = Ready s k }
 after_run m call (run.Refused why) s k = record m { phase = Ready s k }
+
+-- the bench is so far with a command, over these media: at rest, or one is to be settled
+abbrev pub IsSoFar : {R H : Type 0} → Phase R H → Progress → R → H → Type 0
+IsSoFar p far.Ready r h = p ≡ Ready r h
+IsSoFar p (far.Pending work) r h = ⊥
+IsSoFar p (far.Applied work) r h = p ≡ Applied r h work
+IsSoFar p far.Failed r h = ⊥
+
+-- a command that is handed in is accepted and acknowledged if it is done
+abbrev pub after_hand_in : {R H : Type 0} → Now R H → Call → Answer → Phase R H → Now R H
+after_hand_in m call (run.Done n reply) p =
+    record m {
+      phase = p;
+      accepted = Handed_in call ∷ m.accepted;
+      acknowledged = Handed_in call ∷ m.acknowledged;
+    }
+after_hand_in m call (run.Repeated n reply) p = record m { phase = p }
+after_hand_in m call (run.Refused why) p = record m { phase = p }
 
 -- the bench is open, over these media
 abbrev pub IsOpenOver : {R H : Type 0} → Phase R H → R → H → Type 0
@@ -293,6 +320,32 @@ module _ {S H : Type 0} (g : Ghosts S) (j : ShelfGhosts H) where
         (r : Held S) × (h : H) × (work : Work) × (m.phase ≡ Applied r h work)
         × (n ≡ record m { phase = Down db l }) × SettleLeaves g j r s h work
         × IsStop r s h h db l
+    Happens m (Hand_in_returned call answer progress s k) n =
+        (r : Held S) × (h : H) × (before : Progress) × IsSoFar m.phase before r h
+        × (p : Phase (Held S) H) × IsSoFar p progress s k
+        × (n ≡ after_hand_in m call answer p)
+        × (phase_of progress ≡ phase_carried (phase_of before) answer)
+        × ((away : Image) (v u : World) → Stands g j before r h away v u
+        → IsHandedIn g j progress r s h k away v u call.key call.command answer)
+    Happens m (Hand_in_stopped call s k db l) n =
+        (r : Held S) × (h : H) × (before : Progress) × IsSoFar m.phase before r h
+        × (left : List Entry) × (n ≡ record m { phase = Down db l; accepted = left })
+        × IsLeftIn db (Handed_in call) m.accepted left
+        × (leaves : (away : Image) (v u : World) → Stands g j before r h away v u
+        → LeavesRun g j r s h k away v u call.key call.command)
+        × ((away : Image) (v u : World) (stands : Stands g j before r h away v u)
+        → IsRunStop r s h k away v u call (leaves away v u stands) db l)
+    Happens m (Settle_waiting_returned s k) n =
+        (r : Held S) × (h : H) × (before : Progress) × IsSoFar m.phase before r h
+        × (n ≡ record m { phase = Ready s k })
+        × ((away : Image) (v u : World) → Stands g j before r h away v u
+        → IsAt g j s k away [] [] u u)
+    Happens m (Settle_waiting_stopped s k db l) n =
+        (r : Held S) × (h : H) × (before : Progress) × IsSoFar m.phase before r h
+        × (n ≡ record m { phase = Down db l })
+        × ((away : Image) (v u : World) → Stands g j before r h away v u
+        → LeavesOnly g j r s h k away v u)
+        × IsStop r s h k db l
     Happens m (Run_returned call answer s k) n =
         (r : Held S) × (h : H) × (m.phase ≡ Ready r h) × (n ≡ after_run m call answer s k)
         × RunAnswers g j r s h k call.key call.command answer
