@@ -1,4 +1,6 @@
 pub mod Common
 pub mod Listing
+pub mod Missing
+pub mod StrangeTest
 pub mod Truth
 pub mod Walking

@@ -16,7 +16,7 @@ last_at a b p same None = refl
 last_at a b p same (Some n) =
     ap (λ (x : List ℕ). if n == 0 then None else Some x) (same p (n - 1))
 
-same_last : (size size' : Sizes) (a b : Image) → size' ≡ size → Same a b → (p : List ℕ)
+pub same_last : (size size' : Sizes) (a b : Image) → size' ≡ size → Same a b → (p : List ℕ)
     → last_sector size' a p ≡ last_sector size b p
 same_last size size' a b e same p = last_at a b p same (size' p)
     ∙ ap (λ (o : Sizes). last_sector o b p) e

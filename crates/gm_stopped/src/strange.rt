@@ -1,11 +1,12 @@
 //! Which images that pending writes name can't be what a stop left.
 
-ghost use Rattle.std.specs.Prelude.{◌≡◌, ◌⊎◌, ◌↔◌, ℕ, List, IfOk, IfSome, IsTrue, OnOk};
+ghost use Rattle.std.specs.Prelude.{◌≡◌, ◌+◌, ◌≤◌, ◌⊎◌, ◌↔◌, ℕ, List, IfOk, IfSome, IsOkUnless, IsTrue, OnOk};
+ghost use Rattle.gm_shelf.specs.declared.fault.ShelfFault.TheVariants.{Memory};
 ghost use Rattle.gm_lists.specs.Ordered.{Has};
 ghost use Rattle.gm_shelf.specs.Keeping.{Looks};
 ghost use Rattle.gm_state.specs.Lookups.{component_of};
 ghost use Rattle.gm_state.specs.Records.{IsState};
-ghost use Rattle.gm_stopped.specs.Strange.{AreStrange, HasStrange, HasStrangeOf, IsStrange, IsStrangeTo, first_need, has_right_size, second_need};
+ghost use Rattle.gm_stopped.specs.Strange.{AreStrange, HasStrange, HasStrangeOf, IsStrange, IsStrangeTo, first_need, has_right_size, missing, missing_in, missing_of, second_need, strange_names, with_name, with_strange, with_strange_of};
 
 use crate::leavings::may_be_left;
 use crate::stopped::{Role, Stopped};
@@ -93,6 +94,7 @@ fn add(names: &mut Vec<Label>, name: Label) -> Result<(), AllocError>
     ensures kept { (p : List ℕ) → Has names.old.items p → Has names.new.items p }
     ensures only { (p : List ℕ) → Has names.new.items p → Has names.old.items p ⊎ (p ≡ name) }
     ensures added { OnOk result (Has names.new.items name) }
+    ensures listed { OnOk result (names.new.items ≡ with_name names.old.items name) }
 {
     if !names.contains(&name) {
         names.push(name)?;
@@ -116,13 +118,21 @@ fn add_if_strange<H: Shelf>(
         ((H.view shelf.new).faults ≡ (H.view shelf.old).faults
         → IsStrange state.now stopped.now (H.size shelf.old) (H.view shelf.old).seen need
         → Has names.new.items need.image) }
+    ensures listed { H.honest shelf.old → OnOk result
+        ((H.view shelf.new).faults ≡ (H.view shelf.old).faults
+        → names.new.items ≡ with_strange state.now stopped.now (H.size shelf.old)
+        (H.view shelf.old).seen names.old.items need) }
+    ensures missed { H.honest shelf.old → OnOk result (missing state.now stopped.now
+        (H.size shelf.old) (H.view shelf.old).seen names.new.items need
+        + (H.view shelf.old).faults ≤ (H.view shelf.new).faults) }
+    ensures memory { IsOkUnless result Memory }
     ensures looks { Looks H.Shelf shelf.old shelf.new result }
 {
     match is_strange(shelf, state, stopped, need) {
         Ok(true) => Ok(add(names, need.image)?),
         Ok(false) => Ok(()),
-        Err(ShelfFault::Memory) => Err(ShelfFault::Memory),
-        Err(_) => Ok(()),
+        Err(ShelfFault::Device) => Ok(()),
+        Err(_) => Err(ShelfFault::Memory),
     }
 }
 
@@ -141,6 +151,14 @@ fn add_strange_of<H: Shelf>(
     ensures others { H.honest shelf.old → OnOk result
         ((H.view shelf.new).faults ≡ (H.view shelf.old).faults → HasStrangeOf state.now
         stopped.now (H.size shelf.old) (H.view shelf.old).seen intent.now names.new.items) }
+    ensures listed { H.honest shelf.old → OnOk result
+        ((H.view shelf.new).faults ≡ (H.view shelf.old).faults
+        → names.new.items ≡ with_strange_of state.now stopped.now (H.size shelf.old)
+        (H.view shelf.old).seen names.old.items intent.now) }
+    ensures missed { H.honest shelf.old → OnOk result (missing_of state.now stopped.now
+        (H.size shelf.old) (H.view shelf.old).seen names.new.items intent.now
+        + (H.view shelf.old).faults ≤ (H.view shelf.new).faults) }
+    ensures memory { IsOkUnless result Memory }
     ensures looks { Looks H.Shelf shelf.old shelf.new result }
 {
     add_if_strange(names, shelf, state, stopped, first_need(intent))?;
@@ -166,6 +184,14 @@ pub fn strange_images<H: Shelf>(
     ensures others { H.honest shelf.old
         → (H.view shelf.new).faults ≡ (H.view shelf.old).faults → IfOk result (λ names. HasStrange
         state.now stopped.now (H.size shelf.old) (H.view shelf.old).seen intents.now names.items) }
+    ensures listed { H.honest shelf.old
+        → (H.view shelf.new).faults ≡ (H.view shelf.old).faults → IfOk result (λ names. names.items
+        ≡ strange_names state.now stopped.now (H.size shelf.old) (H.view shelf.old).seen
+        intents.now) }
+    ensures missed { H.honest shelf.old → IfOk result (λ names. missing_in state.now stopped.now
+        (H.size shelf.old) (H.view shelf.old).seen names.items intents.now
+        + (H.view shelf.old).faults ≤ (H.view shelf.new).faults) }
+    ensures memory { IsOkUnless result Memory }
     ensures looks { Looks H.Shelf shelf.old shelf.new result }
 {
     let mut names = Vec::new(alloc);
