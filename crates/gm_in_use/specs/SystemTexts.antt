@@ -1,6 +1,7 @@
 -- What the system's files say of open files and of loop devices.
-use Rattle.std.specs.Prelude.{ℕ, ◌-◌, Bool, ◌&&◌, ◌==◌, nat_eq, List, Option, Some, None, codes, length, take, slice_index_or, unwrap_or, if◌then◌else◌}
+use Rattle.std.specs.Prelude.{ℕ, ◌≢◌, ◌<◌, ◌-◌, Bool, ◌&&◌, ◌==◌, nat_eq, List, Option, Some, None, codes, length, take, slice_index, slice_index_or, unwrap_or, if◌then◌else◌}
 use Rattle.std.specs.List.{ends_with, list_any, slice_split, starts_with}
+use Rattle.std.specs.Str.Lines.{IsFirstLine}
 
 -- the last digit of a number
 abbrev pub last_digit : List ℕ → ℕ
@@ -28,3 +29,11 @@ without end text = unwrap_or (before end text) text
 -- the path in the line of a backing file, without what is added if the file has no name any more
 abbrev pub backing_path : List ℕ → List ℕ
 backing_path text = without (codes " (deleted)") (without (codes "\n") text)
+
+-- the text begins with this line, without what ends it
+abbrev pub StartsWithLine : List ℕ → List ℕ → Type 0
+StartsWithLine text line = (rest : List ℕ) × IsFirstLine text line rest
+
+-- no byte is a line feed
+abbrev pub IsOneLine : List ℕ → Type 0
+IsOneLine text = (i : ℕ) → i < length text → slice_index text i ≢ 10

@@ -1,6 +1,8 @@
 //! The look at images before they are written.
 
-ghost use Rattle.std.specs.Prelude.{IfOk, IfSome, Contains};
+ghost use Rattle.std.specs.Prelude.{◌≡◌, ◌++◌, IfOk, IfSome, Contains, codes};
+ghost use Rattle.std.specs.Fs.{file_type, IsFile};
+ghost use Rattle.std.specs.String.{string_bytes};
 
 use crate::answered::answered;
 use crate::locks::is_locked;
@@ -20,12 +22,16 @@ pub struct InUse {
 }
 
 // The path of an image of a folder.
-fn path_of(rt: &HostRuntime, folder: &str, image: Label) -> Result<String, AllocError> {
+fn path_of(rt: &HostRuntime, folder: &str, image: Label) -> Result<String, AllocError>
+    ensures { IfOk result (λ path. string_bytes path ≡ folder.now ++ (codes "/" ++ image)) }
+{
     format!(in rt.alloc(); "{folder}/{image}")
 }
 
 // The regular file that has this path, if one has it; links aren't followed.
-fn file_at(rt: &HostRuntime, path: &str) -> Result<Option<Metadata>, AllocError> {
+fn file_at(rt: &HostRuntime, path: &str) -> Result<Option<Metadata>, AllocError>
+    ensures { IfOk result (λ found. IfSome found (λ file. IsFile (file_type file))) }
+{
     let found = answered(fs::symlink_metadata(rt, path))?;
     Ok(found.filter(|found| found.is_file()))
 }

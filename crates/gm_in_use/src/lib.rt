@@ -3,9 +3,9 @@
 //! `about.rt` says which images a command is about. `in_use.rt` looks at images, and `sentence.rt`
 //! says what it found (`specs/Sentences.antt`). `loop_devices.rt` looks at what backs loop devices,
 //! `writers.rt` at what processes have open for writing, and `locks.rt` tries a lock. `uses.rt`
-//! keeps what was found, and `system_texts.rt` reads what the system says of open files and of loop
-//! devices (`specs/SystemTexts.antt`). What the system doesn't answer is passed over
-//! (`answered.rt`).
+//! keeps what was found (`specs/Uses.antt`), and `system_texts.rt` reads what the system says of
+//! open files, of programs and of loop devices (`specs/SystemTexts.antt`). What the system doesn't
+//! answer is passed over (`answered.rt`).
 #![tactic(auto)]
 
 mod about;

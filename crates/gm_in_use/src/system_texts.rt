@@ -1,7 +1,7 @@
 //! What the system's files say of open files and of loop devices.
 
-ghost use Rattle.std.specs.Prelude.{◌≡◌, option_map};
-ghost use Rattle.gm_in_use.specs.SystemTexts.{backing_path, before, is_open_for_writing, says_writing, without};
+ghost use Rattle.std.specs.Prelude.{◌≡◌, ◌↔◌, ◌<◌, IsSome, IfSome, codes, length, option_map};
+ghost use Rattle.gm_in_use.specs.SystemTexts.{IsOneLine, StartsWithLine, backing_path, before, is_open_for_writing, says_writing, without};
 
 // Whether a line of `fdinfo` says that the file is open for writing.
 fn says_writing(line: &str) -> bool
@@ -45,4 +45,25 @@ pub(crate) fn backing_path(text: &str) -> &str
     ensures { result.now ≡ backing_path text.now }
 {
     without(" (deleted)", without("\n", text))
+}
+
+// The first line of a text, if it has one.
+fn first_line(text: &str) -> Option<&str>
+    ensures some { IsSome result ↔ (0 < length text.now) }
+    ensures first { IfSome result (λ line. StartsWithLine text.now line.now) }
+    ensures one { IfSome result (λ line. IsOneLine line.now) }
+{
+    text.lines().next()
+}
+
+/// The name of a process's program, in one line, by what its `comm` says; `?` if that is nothing.
+pub(crate) fn program_name(comm: &str) -> &str
+    ensures told { 0 < length comm.now → StartsWithLine comm.now result.now }
+    ensures untold { length comm.now ≡ 0 → result.now ≡ codes "?" }
+    ensures one { IsOneLine result.now }
+{
+    match first_line(comm) {
+        Some(line) => line,
+        None => "?",
+    }
 }

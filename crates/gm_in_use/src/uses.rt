@@ -1,5 +1,10 @@
 //! What uses files.
 
+ghost use Rattle.std.specs.Prelude.{◌≡◌, true, None, OnOk, OnErr};
+ghost use Rattle.std.specs.BTreeMap as map;
+ghost use Rattle.std.specs.BTreeSet as set;
+ghost use Rattle.gm_in_use.specs.Uses.{NotesFirst};
+
 use gm_shelf::FileId;
 use std::alloc::{AllocError, Global};
 use std::collections::{BTreeMap, BTreeSet};
@@ -31,7 +36,10 @@ pub(crate) struct Uses {
 
 impl Uses {
     /// Of no files yet.
-    pub(crate) fn new(alloc: Global) -> Uses {
+    pub(crate) fn new(alloc: Global) -> Uses
+        ensures files { set.IsEmpty result.files }
+        ensures found { map.IsEmpty result.found }
+    {
         Uses {
             files: BTreeSet::new(alloc),
             found: BTreeMap::new(alloc),
@@ -39,18 +47,30 @@ impl Uses {
     }
 
     /// Has this file be looked for too.
-    pub(crate) fn look_for(&mut self, file: FileId) -> Result<(), AllocError> {
+    pub(crate) fn look_for(&mut self, file: FileId) -> Result<(), AllocError>
+        ensures added { OnOk result (set.Updates ⟦<FileId as Ord>⟧.cmp
+            self.old.files self.new.files file true) }
+        ensures err { OnErr result (set.IsUnchanged self.old.files self.new.files) }
+        ensures found { self.new.found ≡ self.old.found }
+    {
         self.files.insert(file)?;
         Ok(())
     }
 
     /// Whether this file is looked for.
-    pub(crate) fn is_looked_for(&self, file: FileId) -> bool {
+    pub(crate) fn is_looked_for(&self, file: FileId) -> bool
+        ensures { result ≡ set.contains ⟦<FileId as Ord>⟧.cmp self.now.files file }
+    {
         self.files.contains(&file)
     }
 
     /// Keeps what uses a file, unless something else was found to use it before.
-    pub(crate) fn note(&mut self, file: FileId, by: Use) -> Result<(), AllocError> {
+    pub(crate) fn note(&mut self, file: FileId, by: Use) -> Result<(), AllocError>
+        ensures noted { OnOk result (NotesFirst ⟦<FileId as Ord>⟧.cmp self.old.found
+            self.new.found file by) }
+        ensures err { OnErr result (map.IsUnchanged self.old.found self.new.found) }
+        ensures files { self.new.files ≡ self.old.files }
+    {
         if !self.found.contains_key(&file) {
             self.found.insert(file, by)?;
         }
@@ -58,7 +78,12 @@ impl Uses {
     }
 
     /// What was found to use a file, which is taken out.
-    pub(crate) fn take(&mut self, file: FileId) -> Option<Use> {
+    pub(crate) fn take(&mut self, file: FileId) -> Option<Use>
+        ensures found { result ≡ map.get ⟦<FileId as Ord>⟧.cmp self.old.found file }
+        ensures taken { map.Updates ⟦<FileId as Ord>⟧.cmp self.old.found self.new.found file
+            None }
+        ensures files { self.new.files ≡ self.old.files }
+    {
         self.found.remove(&file)
     }
 }

@@ -1,18 +1,24 @@
 //! The files that other processes have open for writing.
 
+ghost use Rattle.std.specs.Prelude.{IfOk};
+ghost use Rattle.std.specs.String.{string_bytes};
+ghost use Rattle.gm_in_use.specs.SystemTexts.{IsOneLine};
+
 use crate::answered::{answered, text_at};
-use crate::system_texts::is_open_for_writing;
+use crate::system_texts::{is_open_for_writing, program_name};
 use crate::uses::{Use, Uses};
 use gm_shelf::FileId;
 use std::alloc::AllocError;
 use std::fs;
 
 // The name of a process's program, in one line; `?` if it isn't told.
-fn name_of(rt: &HostRuntime, process: u32) -> Result<String, AllocError> {
+fn name_of(rt: &HostRuntime, process: u32) -> Result<String, AllocError>
+    ensures { IfOk result (λ name. IsOneLine (string_bytes name)) }
+{
     let path = format!(in rt.alloc(); "/proc/{process}/comm")?;
     let text = text_at(rt, path.as_str())?;
-    let line = text.as_ref().and_then(|text| text.lines().next());
-    String::from_str(rt.alloc(), line.unwrap_or("?"))
+    let comm = text.as_ref().map_or("", |text| text.as_str());
+    String::from_str(rt.alloc(), program_name(comm))
 }
 
 // Whether a process has what this descriptor is of open for writing.
