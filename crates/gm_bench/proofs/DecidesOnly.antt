@@ -1,6 +1,5 @@
 -- What a call leaves that asks the rules, and writes nothing.
-use Rattle.gm_bench.proofs.Common.{◌≡◌, ◌∙◌, inl, inr, ℕ, List, ap, subst, subst₂, sym, arith, refl, Result, Ok, Err, IfOk, IfErr, Ghosts, Held, Database, Trees, Image, Sizes, IsLawful, IsQuiet, quiet_itself, quiet_moment, Command, Intent, IsAtHand, Has, World, CrashLeaves, CrashLeavesOnly, DiskKept, HasTables, IsRegistry, LeavesAlone, LeavesNothingNew, WasClean, Reads, state, survives_then, BenchFault, Media, TakenUp, OrStep, LeavesStep, IsOfRegistry, OnlyLooksUp, StaysUnlost, AllLead, IsCarriedOut, IsShelfOf, Recovers, IsSettling, saved, Tables}
-use Rattle.sqlite.specs.Schema.{Schema}
+use Rattle.gm_bench.proofs.Common.{◌≡◌, ◌∙◌, inl, inr, ℕ, List, subst, sym, arith, refl, Result, Ok, Err, IfOk, IfErr, OnOk, on_ok_weaker, Ghosts, Held, Trees, Image, Sizes, IsLawful, IsQuiet, quiet_itself, quiet_moment, Command, Intent, IsAtHand, Has, World, CrashLeaves, CrashLeavesOnly, DiskKept, HasTables, IsRegistry, LeavesAlone, LeavesNothingNew, WasClean, Reads, state, survives_then, BenchFault, Media, TakenUp, OrStep, LeavesStep, IsOfRegistry, OnlyLooksUp, StaysUnlost, AllLead, IsCarriedOut, IsShelfOf, Recovers, IsSettling, saved, Tables}
 use Rattle.gm_shelf.specs.declared.shelf.Shelf.{Ghosts as ShelfGhosts}
 use Rattle.gm_bench.proofs.RegistryLeaves.{leads_in}
 
@@ -105,32 +104,14 @@ alone_then g r mid s is clean first second = record {
   crash = nothing_then g r mid s first.crash second.crash;
 }
 
--- a database by its parts
-same_parts : (a b : Database) → a.schema ≡ b.schema → a.trees ≡ b.trees → a ≡ b
-same_parts a b schema trees =
-    subst₂ (λ (s : Schema) (t : Trees). a ≡ record { schema = s; trees = t }) schema trees refl
-
--- a read leaves the tables that a registry had
-pub alone_read : {S : Type 0} (g : Ghosts S) (r s : Held S) (t : Tables) → HasTables g r t
-    → Reads g r s → LeavesAlone g r s
-alone_read g r s t has reads = record {
-  tables = λ kept is_open.
-      let is = (reads.kept kept t has is_open).tables in
-      same_parts (state g s).committed (state g r).committed (is.schema_is ∙ sym has.schema_is)
-      (ap (λ (d : Database). d.trees) (sym is.settled) ∙ reads.same kept t has is_open
-      ∙ ap (λ (d : Database). d.trees) has.settled);
-  crash = reads.left t has;
-}
-
 -- what only looked a loss up left all that a refusal of it leaves
-pub unlost_read : {S H T : Type 0} (g : Ghosts S) (old new : Media S H)
+pub unlost_looked : {S H T : Type 0} (g : Ghosts S) (old new : Media S H)
     (looked : Result T BenchFault)
     → OnlyLooksUp g old new looked → (result : Result TakenUp BenchFault)
     → StaysUnlost g old new result
-unlost_read g old new looked looks result = record {
+unlost_looked g old new looked looks result = record {
   shelf = λ before. looks.shelf;
-  registry = λ clean before t has.
-      alone_read g old.registry new.registry t has (looks.reads clean);
+  registry = λ clean before. looks.untouched clean;
 }
 
 -- a read, and then another, of a registry that keeps its tables in between
@@ -152,29 +133,46 @@ pub looks_then : {S H T U : Type 0} (g : Ghosts S) (old mid new : Media S H)
     (looked : Result T BenchFault) (result : Result U BenchFault) → mid.shelf ≡ old.shelf
     → Reads g old.registry mid.registry → OnlyLooksUp g mid new looked
     → (DiskKept g mid.registry → (t : Tables) → HasTables g old.registry t
-    → HasTables g mid.registry t) → IfErr result IsOfRegistry → OnlyLooksUp g old new result
-looks_then g old mid new looked result shelf reads looks has fault = record {
+    → HasTables g mid.registry t)
+    → (IsRegistry g old.registry → LeavesAlone g old.registry mid.registry)
+    → (DiskKept g mid.registry → IsRegistry g old.registry → IsRegistry g mid.registry)
+    → (DiskKept g new.registry → OnOk result (IsRegistry g mid.registry
+    → IsRegistry g new.registry)) → IfErr result IsOfRegistry → OnlyLooksUp g old new result
+looks_then g old mid new looked result shelf reads looks has left is still fault = record {
   shelf = looks.shelf ∙ shelf;
   clean = let one = reads.clean in
       let two = looks.clean in omega (arith, one, two);
   reads = λ clean.
       let early : DiskKept g mid.registry = omega (arith, looks.clean, clean) in
       reads_then g old.registry mid.registry new.registry (has early) reads (looks.reads clean);
+  untouched = λ clean was.
+      let early : DiskKept g mid.registry = omega (arith, looks.clean, clean) in
+      alone_then g old.registry mid.registry new.registry (is early was) looks.clean (left was)
+      (looks.untouched clean (is early was));
+  still = λ clean.
+      let early : DiskKept g mid.registry = omega (arith, looks.clean, clean) in
+      on_ok_weaker result (λ goes was. goes (is early was)) (still clean);
   fault = fault;
 }
 
 -- a registry that wasn't asked for anything
+nothing_none : {S : Type 0} (g : Ghosts S) (r : Held S) → LeavesNothingNew g r r
+nothing_none g r = record {
+  clean = omega arith;
+  shield = λ is. is;
+  counts = omega arith;
+  limit = refl;
+  closes = λ _ is. inl is;
+  crash = λ _ db left. inl left;
+}
+
+pub alone_none : {S : Type 0} (g : Ghosts S) (r : Held S) → LeavesAlone g r r
+alone_none g r = record { tables = λ kept is_open. refl; crash = nothing_none g r }
+
 pub reads_none : {S : Type 0} (g : Ghosts S) → IsSettling g → (r : Held S) → Reads g r r
 reads_none g settling r = record {
   kept = λ clean t h is_open. saved g settling r t h;
   same = λ clean t h is_open. refl;
-  left = λ t h. record {
-    clean = omega arith;
-    shield = λ is. is;
-    counts = omega arith;
-    limit = refl;
-    closes = λ _ is. inl is;
-    crash = λ _ db left. inl left;
-  };
+  left = λ t h. nothing_none g r;
   clean = omega arith;
 }

@@ -1,5 +1,5 @@
 -- From what an opening without a provider does over its registry to what it leaves of the store.
-use Rattle.gm_bench.proofs.Common.{◌≡◌, ◌∙◌, ◌⊎◌, inl, inr, Ok, ℕ, List, sym, subst, arith, Ghosts, Trees, Held, state, Image, IsLawful, Call, Intent, Reply, Plain, World, Tables, IsStored, Opens, CrashLeaves, DiskKept, HasTables, IsOpen, LeavesAlone, MayLeave, WasClean, stored, sees_registry, Answer, Done, Repeated, Bench, Opened, Carried, redone_of, registry_of, shelf_of, AnswersLoss, AreUntouched, GivesUp, LacksImage, LeavesUndone, dropped, IsLeft, IsFound, IsStepWithout, LeavesCommit, WithoutCarries, WithoutDoes, WithoutLeaves, Carries, Commits, DoesLoss, DoesWithout, KeepsUndone, LacksFirst, LeavesLoss, LeavesWithout, loss_call}
+use Rattle.gm_bench.proofs.Common.{◌≡◌, ◌∙◌, ◌⊎◌, inl, inr, Ok, ℕ, List, sym, subst, arith, Ghosts, Trees, Held, Image, IsLawful, Call, Intent, Reply, Plain, World, Tables, IsStored, Opens, CrashLeaves, DiskKept, HasTables, IsOpen, IsRegistry, LeavesAlone, MayLeave, WasClean, stored, first_is_ours, second_is_ours, Answer, Done, Repeated, Bench, Opened, Carried, redone_of, registry_of, shelf_of, AnswersLoss, AreUntouched, GivesUp, LacksImage, LeavesUndone, dropped, IsLeft, IsFound, IsStepWithout, LeavesCommit, WithoutCarries, WithoutDoes, WithoutLeaves, Carries, Commits, DoesLoss, DoesWithout, KeepsUndone, LacksFirst, LeavesLoss, LeavesWithout, loss_call}
 use Rattle.gm_shelf.specs.declared.shelf.Shelf.{Ghosts as ShelfGhosts}
 use Rattle.gm_bench.specs.declared.answer.Answer.TheVariants.{Refused as NotDone}
 use Rattle.gm_bench.proofs.DecidesOnly.{alone_then}
@@ -122,18 +122,19 @@ module _ {S H : Type 0} (g : Ghosts S) (j : ShelfGhosts H) (store mid : Held S)
 -- both media after an opening of the registry that was left alone then
 pub are_untouched : {S H : Type 0} (g : Ghosts S) (start mid new : Held S) (h k : H) → k ≡ h
     → WasClean g mid new → (IsOpen g start → Opens g start mid (Ok tt))
-    → (DiskKept g new → (t : Tables) → HasTables g mid t → LeavesAlone g mid new)
+    → (DiskKept g new → IsRegistry g mid → LeavesAlone g mid new)
     → AreUntouched g start h new k
 are_untouched g start mid new h k same was_clean opens alone = record {
   shelf_is = same;
-  alone = λ is_open clean sound t stands.
+  alone = λ is_open clean sound.
       let early : DiskKept g mid = omega (arith, was_clean, clean) in
-      let has = (opens is_open).opened early t stands in
-      alone_then g start mid new (sees_registry (state g mid) t has) was_clean
-      ((opens is_open).second sound).alone (alone clean t has);
-  first_alone = λ is_open clean sound t stands.
+      let it = opens is_open in
+      let is = it.registry early (second_is_ours (stored g start) sound) in
+      alone_then g start mid new is was_clean (it.second sound).alone (alone clean is);
+  first_alone = λ is_open clean sound.
       let early : DiskKept g mid = omega (arith, was_clean, clean) in
-      let has = (opens is_open).opened early t stands in
-      let over = (opens is_open).first sound in
-      carried_then g start mid new (over.done early) over.left (alone clean t has);
+      let it = opens is_open in
+      let is = it.registry early (first_is_ours (stored g start) sound) in
+      let over = it.first sound in
+      carried_then g start mid new (over.done early) over.left (alone clean is);
 }

@@ -1,5 +1,5 @@
 -- What the calls owe that find out what the rules answer to a command. They write nothing.
-use Rattle.std.specs.Prelude.{◌≡◌, ◌≤◌, ℕ, List, length, Result, IfOk, IfErr, IsErrOf}
+use Rattle.std.specs.Prelude.{◌≡◌, ◌≤◌, ℕ, List, length, Result, IfOk, IfErr, OnOk, IsErrOf}
 use Rattle.sqlite_trees.specs.declared.store.Store.{Ghosts as StoreGhosts}
 use Rattle.gm_metadata.specs.Images.{Image, Sizes}
 use Rattle.gm_shelf.specs.declared.shelf.Shelf.{Ghosts as ShelfGhosts}
@@ -18,7 +18,7 @@ use Rattle.gm_rules.specs.Itself.{IsItself}
 use Rattle.gm_rows.specs.ReadableTables.{AreRecordsOf}
 use Rattle.gm_registry.specs.declared.part.Part.{Part}
 use Rattle.gm_registry.specs.Parts.{IsPartFor}
-use Rattle.gm_registry.specs.Registry.{DiskKept, HasTables, Reads}
+use Rattle.gm_registry.specs.Registry.{DiskKept, HasTables, IsRegistry, LeavesAlone, Reads}
 use Rattle.gm_registry.specs.Replies.{count_of}
 use Rattle.gm_bench.specs.declared.fault.BenchFault.{BenchFault}
 use Rattle.gm_bench.specs.declared.fault.BenchFault.TheVariants.{Disk, Store, Unreadable}
@@ -50,6 +50,11 @@ module _ {S H T : Type 0} (s : StoreGhosts S) (old new : Media S H)
         → HasTables s old.registry t → count_of t ≤ 100000 → ⊥
     -- it only reads the registry
     pub reads : Reads s old.registry new.registry
+    -- whatever rows there are stay
+    pub untouched : IsRegistry s old.registry → LeavesAlone s old.registry new.registry
+    -- at Ok it is a registry still
+    pub still : DiskKept s new.registry → OnOk result (IsRegistry s old.registry
+        → IsRegistry s new.registry)
     -- the shelf stays
     pub shelf : new.shelf ≡ old.shelf
 

@@ -14,7 +14,7 @@ use Rattle.gm_registry.specs.Fitting.{HasRoom}
 use Rattle.gm_registry.specs.Replies.{AreWrittenUnder, count_of}
 use Rattle.gm_bench.specs.Benches.{media_of, progress_of, redone_of, registry_of, shelf_of}
 use Rattle.gm_bench.specs.ShelfFacts.{IsHonestToAdopt}
-use Rattle.gm_registry.specs.Registry.{DiskKept, HasTables, IsOpen, IsRegistry, LeavesNothingNew, Reads, Refuses, StoreFailed, WasClean, seen}
+use Rattle.gm_registry.specs.Registry.{DiskKept, HasTables, IsOpen, IsRegistry, LeavesAlone, LeavesNothingNew, Reads, Refuses, StoreFailed, WasClean, seen}
 use Rattle.gm_bench.specs.declared.bench.Bench.{Bench}
 use Rattle.gm_bench.specs.declared.fault.BenchFault.{BenchFault}
 use Rattle.gm_bench.specs.declared.fault.BenchFault.TheVariants.{Absent, Closed, Disk, Store, Unreadable}
@@ -96,12 +96,17 @@ pub record Looks {H T : Type 0} (h : ShelfGhosts H) (old new : H)
   pub not_store : IsErrOf result Store → ⊥
   pub fault : IfErr result IsOfMedia
 
--- A call that looks up what the registry holds leaves both media, and fails as the registry does.
+-- A call that looks up what the registry holds leaves both media, whatever rows there are, and
+-- fails as the registry does; at Ok it is a registry still.
 pub record OnlyLooksUp {S H T : Type 0} (s : StoreGhosts S) (old new : Media S H)
     (result : Result T BenchFault) : Type 0 where
   pub shelf : new.shelf ≡ old.shelf
   pub clean : WasClean s old.registry new.registry
   pub reads : DiskKept s new.registry → Reads s old.registry new.registry
+  pub untouched : DiskKept s new.registry → IsRegistry s old.registry
+      → LeavesAlone s old.registry new.registry
+  pub still : DiskKept s new.registry → OnOk result (IsRegistry s old.registry
+      → IsRegistry s new.registry)
   pub fault : IfErr result IsOfRegistry
 
 module _ {S H T : Type 0} (s : StoreGhosts S) (h : ShelfGhosts H) (old new : Media S H)

@@ -18,7 +18,7 @@ use Rattle.gm_rows.specs.Schema.{first_schema, registry_schema}
 use Rattle.gm_registry.specs.Opening.{IsForeign, IsOpenable}
 use Rattle.gm_registry.specs.Fitting.{HasRoom}
 use Rattle.gm_registry.specs.Opens.{IsStored}
-use Rattle.gm_registry.specs.Registry.{DiskKept, HasTables, IsOpen, LeavesAlone, StoreFailed, seen, stored}
+use Rattle.gm_registry.specs.Registry.{DiskKept, HasTables, IsOpen, IsRegistry, LeavesAlone, StoreFailed, seen, stored}
 use Rattle.gm_registry.specs.Replies.{AreWrittenUnder, count_of}
 use Rattle.gm_bench.specs.declared.bench.OpenFault.{OpenFault}
 use Rattle.gm_bench.specs.declared.fault.BenchFault.{BenchFault}
@@ -34,7 +34,7 @@ use Rattle.gm_bench.specs.declared.take_up_without.TakenUp.TheVariants.{Carried,
 use Rattle.gm_bench.specs.Benches.{progress_of, redone_of, registry_of, shelf_of}
 use Rattle.gm_bench.specs.Calls.{Keep, TellsDisk, most_rows}
 use Rattle.gm_bench.specs.Faults.{IsBeforeWrites}
-use Rattle.gm_bench.specs.Opened.{MayBeCarriedOver}
+use Rattle.gm_bench.specs.Opened.{AreOfState, MayBeCarriedOver}
 use Rattle.gm_bench.specs.Owed.{IsLeft, IsOpening, OpenLeaves}
 use Rattle.gm_bench.specs.Presence.{first_absent}
 use Rattle.gm_bench.specs.Recovering.{IsAt}
@@ -121,7 +121,7 @@ pub record TakesLoss (db : Trees) : Type 0 where
   pub room : HasRoom most_rows db
 
 -- What is told of a loss that is carried out: F5 exactly if an image isn't there, and then nothing
--- is written; F6 only of more commands than may be accepted, before an image is written; F3 only if
+-- is written; F6 only of more commands than may be accepted, before anything is written; F3 only if
 -- the shelf failed.
 pub record TellsOfLoss {S H : Type 0} (s : Ghosts S) (h : ShelfGhosts H) (loss : Loss)
     (old new : Media S H) (result : Result ℕ BenchFault) : Type 0 where
@@ -129,17 +129,21 @@ pub record TellsOfLoss {S H : Type 0} (s : Ghosts S) (h : ShelfGhosts H) (loss :
   pub absent : (q : List ℕ) → IsErrOf result (Absent q)
       → (first_absent loss.after (h.size old.shelf) loss.intents.items ≡ Some q) × (new ≡ old)
   pub unread : IsErrOf result Unreadable → new.shelf ≡ old.shelf
+  pub untouched : IsErrOf result Unreadable → IsRegistry s old.registry
+      → LeavesAlone s old.registry new.registry
   pub readable : DiskKept s new.registry → IsErrOf result Unreadable → (t : Tables)
       → HasTables s old.registry t → count_of t ≤ 100000 → ⊥
   pub disk : AreReadable loss.after loss.bytes.items loss.intents.items → IsState loss.after
       → TellsDisk h old.shelf new.shelf result
   pub closed : IsErrOf result Closed → ⊥
 
--- What is told if a provider is given up under a key, of tables that say a state: F3 only if the
--- shelf failed, F6 only of a row under the key that this program doesn't write, and F2 only if the
--- store failed, as long as there is room for a loss.
+-- What is told if a provider is given up under a key: Ok only if the tables say a state. Of such
+-- F3 comes only if the shelf failed, F6 only of a row under the key that this program doesn't
+-- write, and F2 only if the store failed, as long as there is room for a loss.
 pub record TellsWithout {S H T : Type 0} (s : Ghosts S) (h : ShelfGhosts H) (key : List ℕ)
     (old new : Media S H) (result : Result T BenchFault) : Type 0 where
+  pub readable : DiskKept s new.registry → OnOk result ((t : Tables) → HasTables s old.registry t
+      → AreOfState t)
   pub disk : DiskKept s new.registry → (t : Tables) → HasTables s old.registry t
       → TellsDisk h old.shelf new.shelf result
   pub unreadable : DiskKept s new.registry → IsErrOf result Unreadable → (t : Tables)
@@ -157,22 +161,22 @@ IsUnwritten (Ok (Carried answer redone)) = ⊥
 IsUnwritten (Ok (NotLost why)) = Unit {0}
 IsUnwritten (Err fault) = IsBeforeWrites fault
 
--- Then the shelf is as it was, and so are the tables of a registry.
+-- Then the shelf is as it was, and so is a registry, whatever its rows hold.
 pub record StaysUnlost {S H : Type 0} (s : Ghosts S) (old new : Media S H)
     (result : Result TakenUp BenchFault) : Type 0 where
   pub shelf : IsUnwritten result → new.shelf ≡ old.shelf
-  pub registry : DiskKept s new.registry → IsUnwritten result → (t : Tables)
-      → HasTables s old.registry t → LeavesAlone s old.registry new.registry
+  pub registry : DiskKept s new.registry → IsUnwritten result → IsRegistry s old.registry
+      → LeavesAlone s old.registry new.registry
 
 module _ {S H : Type 0} (s : Ghosts S) (store : Held S) (shelf : H) where
-  -- The shelf is as it was, and so is a store with tables; those of the first schema may be carried
-  -- over.
+  -- The shelf is as it was, and so is a registry, whatever rows its tables hold; but tables of the
+  -- first schema may be carried over.
   pub record AreUntouched (end : Held S) (k : H) : Type 0 where
     pub shelf_is : k ≡ shelf
     pub alone : IsOpen s store → DiskKept s end → IsSound registry_schema (stored s store)
-        → (t : Tables) → IsStored (stored s store) t → LeavesAlone s store end
+        → LeavesAlone s store end
     pub first_alone : IsOpen s store → DiskKept s end → IsSound first_schema (stored s store)
-        → (t : Tables) → IsStored (stored s store) t → MayBeCarriedOver s store end
+        → MayBeCarriedOver s store end
 
   -- a refusal leaves both media so
   abbrev pub StaysRefused : Without S H → Type 0
@@ -181,13 +185,15 @@ module _ {S H : Type 0} (s : Ghosts S) (store : Held S) (shelf : H) where
 
 module _ {S H : Type 0} (s : Ghosts S) (h : ShelfGhosts H) (store : Held S) (shelf : H)
     (key p : List ℕ) where
-  -- what is answered of the loss
+  -- What is answered of the loss; whatever it is, the tables that are stored say a state.
   pub record IsOpenedWithout (it : Without S H) : Type 0 where
     pub answers : h.honest shelf → IsOpen s store → DiskKept s (store_behind it)
         → AnswersLoss s h store shelf key p it
     pub undone : h.honest shelf → IsOpen s store → DiskKept s (store_behind it)
         → LeavesUndone s h store shelf key p it
     pub ready : IsReady it
+    pub readable : IsOpen s store → DiskKept s (store_behind it)
+        → (t : Tables) → IsStored (stored s store) t → AreOfState t
     pub refused : StaysRefused s store shelf it
 
   -- Why it failed. By the tables that are stored and the sizes alone: F3 only if the device

@@ -19,7 +19,7 @@ use Rattle.gm_refusals.specs.WorldFacts.{seen_of}
 use Rattle.gm_changes.specs.Decides.{Changed, Decides, changed_by}
 use Rattle.gm_rows.specs.ReadableTables.{AreRecordsOf, AreTablesOf}
 use Rattle.gm_registry.specs.Fitting.{HasRoom}
-use Rattle.gm_registry.specs.Registry.{DiskKept, HasTables, StoreFailed, seen}
+use Rattle.gm_registry.specs.Registry.{DiskKept, HasTables, IsRegistry, LeavesAlone, StoreFailed, seen}
 use Rattle.gm_registry.specs.Replies.{AreWrittenUnder, IsFree, count_of}
 use Rattle.gm_bench.specs.declared.fault.BenchFault.{BenchFault}
 use Rattle.gm_bench.specs.declared.fault.BenchFault.TheVariants.{Absent, Store, Unreadable}
@@ -167,6 +167,9 @@ module _ {S H : Type 0} (g : StoreGhosts S) (h : ShelfGhosts H) (old new : Media
       -- if it succeeds the registry goes on
       pub goes_on : DiskKept g new.registry → OnOk result ((t : Tables)
           → HasTables g old.registry t → GoesOn g old.registry new.registry)
+      -- F6 leaves a registry alone, whatever its rows hold
+      pub untouched : IsErrOf result Unreadable → IsRegistry g old.registry
+          → LeavesAlone g old.registry new.registry
       -- it writes the registry alone
       pub alone : WritesAlone g old new result
 

@@ -55,7 +55,7 @@ EachNewClaims u w x =
     → WasBare u k → ClaimsOf m k (λ syncid. w.holds m.name) x
 
 -- No component of u claims in the image a sector that it lacks, nor does one that is new in w; the
--- intents keep that on the way to w; and these and the last sectors come of what was accepted since.
+-- intents keep that on the way to w; these and the last sectors come of what was accepted since.
 pub record KeepsClaims (ts : List Intent) (x : Image) (u w : World) : Type 0 where
   pub sound : Sound u
   pub sizes : u.size ≡ w.size

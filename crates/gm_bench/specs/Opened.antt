@@ -27,13 +27,20 @@ use Rattle.gm_bench.specs.Faults.{IsBeforeWrites, IsOfRegistry}
 use Rattle.gm_bench.specs.Owed.{IsLeft, OpenDoes, OpenLeaves}
 use Rattle.gm_bench.specs.Presence.{first_absent}
 
+-- the tables say a state, with intents and bytes that are readable for it
+abbrev pub AreOfState : Tables → Type 0
+AreOfState t =
+    (r : Records) × (ts : List Intent) × (bytes : List (List ℕ)) × AreTablesOf t r ts bytes
+
 -- ---- of media whose registry is open
 
--- What is told by the registry's tables and the sizes alone: each image that the pending intents
--- need is there at Ok, and the first that isn't is reported; F3 only if the device failed, and F6
--- only if the tables don't say a state with readable intents.
+-- What is told by the registry's tables and the sizes alone: at Ok the tables say a state with
+-- readable intents, and each image that these need is there; the first that isn't is reported; F3
+-- only if the device failed, and F6 only if the tables don't say such a state.
 pub record TellsOfTables {S H T : Type 0} (s : StoreGhosts S) (h : ShelfGhosts H)
     (old new : Media S H) (result : Result T BenchFault) : Type 0 where
+  pub readable : DiskKept s new.registry → OnOk result ((t : Tables) → HasTables s old.registry t
+      → AreOfState t)
   pub there : DiskKept s new.registry → OnOk result ((t : Tables) (r : Records) (ts : List Intent)
       (bytes : List (List ℕ)) → HasTables s old.registry t → AreTablesOf t r ts bytes
       → first_absent r (h.size old.shelf) ts ≡ None)
@@ -48,8 +55,9 @@ pub record TellsOfTables {S H T : Type 0} (s : StoreGhosts S) (h : ShelfGhosts H
       (bytes : List (List ℕ)) → HasTables s old.registry t → AreTablesOf t r ts bytes → ⊥
   pub closed : IsErrOf result Closed → ⊥
 
--- All that the registry holds is loaded: it is only read, and the shelf stays. F6 only if the
--- tables don't say a state with readable intents, and Store only if the store failed.
+-- All that the registry holds is loaded: it is only read, whatever its rows hold, and the shelf
+-- stays; at Ok it is a registry still. F6 only if the tables don't say a state with readable
+-- intents, and Store only if the store failed.
 pub record LoadsOnly {S H T : Type 0} (s : StoreGhosts S) (old new : Media S H)
     (result : Result T BenchFault) : Type 0 where
   pub unreadable : DiskKept s new.registry → IsErrOf result Unreadable
@@ -58,6 +66,8 @@ pub record LoadsOnly {S H T : Type 0} (s : StoreGhosts S) (old new : Media S H)
   pub store : DiskKept s new.registry → IsErrOf result Store
       → IsRegistry s old.registry → StoreFailed s old.registry new.registry
   pub untouched : IsRegistry s old.registry → LeavesAlone s old.registry new.registry
+  pub still : DiskKept s new.registry → OnOk result (IsRegistry s old.registry
+      → IsRegistry s new.registry)
   pub fault : IfErr result IsOfRegistry
   pub reads : Reads s old.registry new.registry
   pub shelf : new.shelf ≡ old.shelf
@@ -90,8 +100,8 @@ abbrev pub HoldsKnown : Trees → Type 0
 HoldsKnown db = ((t : Tables) × IsStored db t) ⊎ IsForeign db
 
 module _ {S H : Type 0} (s : StoreGhosts S) (h : ShelfGhosts H) (store : Held S) (shelf : H) where
-  -- The bench is at rest in the world that was left; the number is that of the intents that were
-  -- pending; and each image that they need is there.
+  -- The tables that are stored say a state, and the bench is at rest in the world that was left;
+  -- the number is that of the intents that were pending; and each image that they need is there.
   pub record IsOpened (b : Bench S H) : Type 0 where
     pub ready : progress_of b ≡ Ready
     pub does : h.honest shelf → IsOpen s store → DiskKept s (registry_of b)
@@ -99,6 +109,8 @@ module _ {S H : Type 0} (s : StoreGhosts S) (h : ShelfGhosts H) (store : Held S)
     pub redone : h.honest shelf → IsOpen s store → DiskKept s (registry_of b)
         → (away : Image) (u w : World) → (left : IsLeft s h store shelf away u w)
         → redone_of b ≡ length left.recovers.intents
+    pub readable : IsOpen s store → DiskKept s (registry_of b)
+        → (t : Tables) → IsStored (stored s store) t → AreOfState t
     pub there : IsOpen s store → DiskKept s (registry_of b)
         → (t : Tables) (r : Records) (ts : List Intent)
         (bytes : List (List ℕ)) → IsStored (stored s store) t → AreTablesOf t r ts bytes

@@ -8,6 +8,27 @@ abbrev pub IsSettling : {S : Type 0} → Ghosts S → Type 0
 IsSettling {S} g = (s : S) (db : Trees) → IsTrue (g.view s).is_open → g.recovers s db
     → db ≡ (g.view s).committed
 
+-- a query of our tables, answered or not
+module _ {S X : Type 0} (g : Ghosts S) (old new : Held S) (items : X → List Row) (sql : List ℕ)
+    (params : Row) (plain : IsPlain (understood registry_schema sql))
+    (left : Survives (state g old) (state g new) (CommitsShowing sql params (state g old))) where
+  known_plain : (s : Schema) → IsOurSchema s → IsPlain (understood s sql)
+  known_plain s is = subst (λ (x : Schema). IsPlain (understood x sql)) (sym is) plain
+
+  pub query_read : (result : Result X Error) → (of.DiskKept g new
+      → IfOk result (λ rows. Shown sql params (state g old) (state g new) (items rows)))
+      → OnOk result (of.HasRead g old new)
+  query_read (Ok rows) shown = read_by IsOurSchema sql params known_plain (state g old)
+      (state g new) (items rows) shown left
+  query_read (Err e) shown = tt
+
+  pub query_failed : (result : Result X Error) → (of.DiskKept g new
+      → IfErr result (FailsToQuery sql params (state g old) (state g new)))
+      → OnErr result (of.HasFailed g old new)
+  query_failed (Ok rows) fails = tt
+  query_failed (Err e) fails = failed_by IsOurSchema sql params known_plain (state g old)
+      (state g new) e fails left
+
 module _ {S : Type 0} (g : Ghosts S) (settling : IsSettling g) where
   pub saved : (r : Held S) (t : Tables) → of.HasTables g r t → of.HasSaved g r t
   saved r t has = record {
@@ -44,13 +65,9 @@ module _ {S : Type 0} (g : Ghosts S) (settling : IsSettling g) where
       → Survives (state g old) (state g new) (CommitsShowing sql params (state g old))
       → of.Reads g old new
   query_reads old new (Ok rows) items sql params plain shown fails left =
-      answered_reads old new (read_by IsOurSchema sql params
-      (λ s is. subst (λ (x : Schema). IsPlain (understood x sql)) (sym is) plain)
-      (state g old) (state g new) (items rows) shown left)
+      answered_reads old new (query_read g old new items sql params plain left (Ok rows) shown)
   query_reads old new (Err e) items sql params plain shown fails left =
-      failed_reads old new (failed_by IsOurSchema sql params
-      (λ s is. subst (λ (x : Schema). IsPlain (understood x sql)) (sym is) plain)
-      (state g old) (state g new) e fails left)
+      failed_reads old new (query_failed g old new items sql params plain left (Err e) fails)
 
   -- a write, from what is known of it
   pub writes : {X E : Type 0} (old new : Held S) (result : Result X E) (after : Tables → Tables)

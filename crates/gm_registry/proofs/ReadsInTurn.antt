@@ -1,5 +1,5 @@
 -- Reads one after another.
-use Rattle.gm_registry.proofs.Common.{inl, inr, ◌∙◌, IsTrue, refl, ap, arith, Trees, Database, State, HasCleanDisk, Survives, survives_weaker, LeavesAlone, read_then_over, failed_then_over, read_at_most, failed_leaves_over, carried_over, settled_schema, settled_rows, rolled, kept_itself, unchanged_has, Tables, registry_schema, SeesTables, HasCounted, SeesRegistry, IsOurSchema, IsOurs, HasRead, HasFailed}
+use Rattle.gm_registry.proofs.Common.{inl, inr, ◌∙◌, IsTrue, refl, sym, ap, subst, arith, IsSound, Trees, Database, State, HasCleanDisk, Survives, survives_weaker, LeavesAlone, read_then_over, failed_then_over, read_at_most, failed_leaves_over, carried_over, settled_schema, settled_rows, rolled, kept_itself, unchanged_has, Tables, registry_schema, SeesTables, HasCounted, SeesRegistry, IsOurSchema, IsOurs, HasRead, HasFailed}
 
 pub read_then : (a b c : State) → HasRead a b → HasRead b c → HasRead a c
 read_then = read_then_over IsOurSchema
@@ -56,6 +56,21 @@ sees_registry s t was = record {
 
 pub registry_ours : (s : State) → SeesRegistry s → IsOurs s
 registry_ours s was = ap (λ (d : Database). d.schema) was.settled ∙ was.schema_is
+
+-- an answered read leaves one
+pub registry_stays : (old new : State) → HasRead old new → HasCleanDisk new → SeesRegistry old
+    → SeesRegistry new
+registry_stays old new read clean was =
+    let same = (read.unchanged clean (registry_ours old was)).0 in
+    record {
+      is_open = same.is_open;
+      autocommit = same.mode ∙ was.autocommit;
+      schema_is = ap (λ (d : Database). d.schema) same.committed_is ∙ was.schema_is;
+      settled = same.now_is ∙ was.settled ∙ sym same.committed_is;
+      sound = subst (λ (d : Database). IsSound registry_schema d.trees) (sym same.committed_is)
+          was.sound;
+      about = ap (λ (d : Database). d.trees 0) same.committed_is ∙ was.about;
+    }
 
 pub failed_leaves : (old new : State) → HasFailed old new → SeesRegistry old → LeavesAlone old new
 failed_leaves old new failed was =

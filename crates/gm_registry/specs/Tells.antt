@@ -95,6 +95,8 @@ module _ {S : Type 0} (g : Ghosts S) (old new : Held S) where
     pub reads : Reads g old new
     -- whatever rows there are stay
     pub untouched : IsRegistry g old → LeavesAlone g old new
+    -- at Ok it is a registry still
+    pub still : DiskKept g new → OnOk result (IsRegistry g old → IsRegistry g new)
 
   -- The state alone, read of the tables of mirrors and of components.
   pub record LoadsState (result : Result Records StoreFault) : Type 0 where
@@ -153,6 +155,10 @@ module _ {S : Type 0} (g : Ghosts S) (old new : Held S) where
     pub store : TellsFailure result
     -- it only reads
     pub reads : Reads g old new
+    -- whatever rows there are stay
+    pub untouched : IsRegistry g old → LeavesAlone g old new
+    -- at Ok it is a registry still
+    pub still : DiskKept g new → OnOk result (IsRegistry g old → IsRegistry g new)
 
   -- How many commands were accepted.
   pub record CountsCommands (result : Result ℕ StoreFault) : Type 0 where
@@ -166,3 +172,7 @@ module _ {S : Type 0} (g : Ghosts S) (old new : Held S) where
     pub store : TellsFailure result
     -- it only reads
     pub reads : Reads g old new
+    -- whatever rows there are stay
+    pub untouched : IsRegistry g old → LeavesAlone g old new
+    -- at Ok it is a registry still
+    pub still : DiskKept g new → OnOk result (IsRegistry g old → IsRegistry g new)

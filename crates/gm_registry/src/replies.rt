@@ -1,11 +1,11 @@
 //! What is read of the accepted commands: the reply under a key, and the greatest number.
 
-ghost use Rattle.std.specs.Prelude.{◌≡◌, ◌≢◌, ◌≤◌, ◌<◌, ◌^◌, ℕ, pos, filter, map, string_bytes, IfOk, IfErr, OnOk, IsPermutation};
+ghost use Rattle.std.specs.Prelude.{◌≡◌, ◌≢◌, ◌≤◌, ◌<◌, ◌^◌, ℕ, pos, filter, map, string_bytes, IfOk, IfErr, OnOk, OnErr, IsPermutation};
 ghost use Rattle.sqlite.specs.Order.{column};
 ghost use Rattle.sqlite.specs.declared.types.Value.TheVariants.{Int, Text};
 ghost use Rattle.gm_state.specs.Rows.{Tables, CommandRow};
 ghost use Rattle.gm_registry.specs.Replies.{Fits, reply_in, is_under, reply_values, IsLastOf};
-ghost use Rattle.gm_registry.specs.Registry.{DiskKept, HasTables, seen, StoreFailed, Reads};
+ghost use Rattle.gm_registry.specs.Registry.{DiskKept, HasFailed, HasRead, HasTables, seen, StoreFailed, Reads};
 ghost use Rattle.gm_rows.specs.Faults.{OnUnreadable, OnOther};
 ghost use Rattle.gm_registry.specs.Tells.{CountsCommands, FindsReply};
 
@@ -89,6 +89,8 @@ fn find_command<S: Alter>(conn: &mut Connection<S>, key: &str) -> Result<Vec<Row
         → OnOther result ((t : Tables) → HasTables S.Store conn.old t
         → StoreFailed S.Store conn.old conn.new) }
     ensures reads { Reads S.Store conn.old conn.new }
+    ensures read { OnOk result (HasRead S.Store conn.old conn.new) }
+    ensures failed { OnErr result (HasFailed S.Store conn.old conn.new) }
 {
     conn.query_all(
         "SELECT seq, words, copied, of_total FROM commands WHERE call_key = ?1",
@@ -124,6 +126,8 @@ fn last_command<S: Alter>(conn: &mut Connection<S>) -> Result<Vec<Row>, Error>
     ensures same { DiskKept S.Store conn.new → OnOk result ((t : Tables)
         → HasTables S.Store conn.old t → seen S.Store conn.new ≡ seen S.Store conn.old) }
     ensures reads { Reads S.Store conn.old conn.new }
+    ensures read { OnOk result (HasRead S.Store conn.old conn.new) }
+    ensures failed { OnErr result (HasFailed S.Store conn.old conn.new) }
 {
     conn.query_all("SELECT seq FROM commands ORDER BY seq DESC LIMIT 1", &[])
 }

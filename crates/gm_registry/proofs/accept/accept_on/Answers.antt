@@ -68,5 +68,6 @@ returns-clause-accepts g c =
           (commands_with (changed_in e) e.key.now number e.words.now (left t)
           ∙ ap (λ (l : List CommandRow). row ∷ l) (left_commands c.args.pending t));
       unreadable = search rules;
+      untouched = search rules;
       store = search rules;
     }

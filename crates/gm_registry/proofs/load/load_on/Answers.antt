@@ -1,8 +1,12 @@
-use Rattle.gm_registry.proofs.Common.{rules, state, if_ok, if_err, says_tables, tables_said, any_tables, any_rows}
-use Rattle.gm_registry.proofs.ReadsInTurn.{ours, counted, tables_stay, registry_ours, read_leaves}
+use Rattle.gm_registry.proofs.Common.{Result, Ok, Err, OnOk, rules, state, if_ok, if_err, says_tables, tables_said, any_tables, any_rows}
+use Rattle.gm_registry.proofs.ReadsInTurn.{ours, counted, tables_stay, registry_ours, registry_stays, read_leaves}
 use Rattle.gm_registry.proofs.Stored.{registry_numbers}
 use Rattle.gm_registry.proofs.CallsLeave.{saved, answered_reads, failed_reads}
 use Rattle.gm_registry.proofs.load.load_on.Goals as goal
+
+on_ok : {X E : Type 0} (result : Result X E) (P : Type 0) → P → OnOk result P
+on_ok (Ok x) P p = p
+on_ok (Err e) P p = tt
 
 pub returns : goal.returns
 returns g c =
@@ -36,6 +40,8 @@ returns g c =
           c.in_ok-fetched.ensures.read;
       untouched = read_leaves (state g.S.Store c.args.conn.now) (state g.S.Store c.fetch.new.conn)
           c.in_ok-fetched.ensures.read;
+      still = λ clean. on_ok c.judge.result _ (registry_stays (state g.S.Store c.args.conn.now)
+          (state g.S.Store c.fetch.new.conn) c.in_ok-fetched.ensures.read clean);
     }
 
 pub returns-in_err-fetched : goal.returns-in_err-fetched
@@ -49,4 +55,5 @@ returns-in_err-fetched g c =
       reads = failed_reads g.S.Store g.met.S.Store.settled c.args.conn.now c.fetch.new.conn
           c.in_err-fetched.ensures.failed;
       untouched = search rules;
+      still = search rules;
     }

@@ -1,6 +1,7 @@
-use Rattle.gm_registry.proofs.Common.{rules, arith, sym, ap, ◌∙◌, length, slice_get, passed_on}
+use Rattle.gm_registry.proofs.Common.{rules, arith, sym, ap, ◌∙◌, length, slice_get, state, passed_on}
 use Rattle.gm_registry.proofs.LastCommand.{no_command, last_number, last_in_range}
 use Rattle.gm_registry.proofs.CallsLeave.{saved}
+use Rattle.gm_registry.proofs.ReadsInTurn.{failed_leaves, read_leaves, registry_stays}
 use Rattle.gm_registry.proofs.replies.accepted_on.Goals as goal
 
 pub returns-in-None-clause-counts : goal.returns-in-None-clause-counts
@@ -15,6 +16,10 @@ returns-in-None-clause-counts g c =
       unreadable = search rules;
       store = search rules;
       reads = search rules;
+      untouched = read_leaves (state g.S.Store c.args.conn.now)
+          (state g.S.Store c.last_command.new.conn) c.in_ok-rows.ensures.read;
+      still = registry_stays (state g.S.Store c.args.conn.now)
+          (state g.S.Store c.last_command.new.conn) c.in_ok-rows.ensures.read;
     }
 
 pub returns-clause-counts : goal.returns-clause-counts
@@ -30,6 +35,22 @@ returns-clause-counts g c =
       unreadable = search rules;
       store = search rules;
       reads = search rules;
+      untouched = read_leaves (state g.S.Store c.args.conn.now)
+          (state g.S.Store c.last_command.new.conn) c.in_ok-rows.ensures.read;
+      still = registry_stays (state g.S.Store c.args.conn.now)
+          (state g.S.Store c.last_command.new.conn) c.in_ok-rows.ensures.read;
+    }
+
+pub returns-in_err-rows-clause-counts : goal.returns-in_err-rows-clause-counts
+returns-in_err-rows-clause-counts g c =
+    record {
+      count = search rules;
+      unreadable = search rules;
+      store = search rules;
+      reads = search rules;
+      untouched = failed_leaves (state g.S.Store c.args.conn.now)
+          (state g.S.Store c.last_command.new.conn) c.in_err-rows.ensures.failed;
+      still = search rules;
     }
 
 pub returns-in_err-read_number-in-Some-clause-counts :
@@ -51,4 +72,7 @@ returns-in_err-read_number-in-Some-clause-counts g c =
           (λ e same is t was. absurd (c.in_err-read_number-in-Some.ensures.fault (sym same ∙ is)))
           c.from_residual-in_err-read_number-in-Some.ensures.1;
       reads = search rules;
+      untouched = read_leaves (state g.S.Store c.args.conn.now)
+          (state g.S.Store c.last_command.new.conn) c.in_ok-rows.ensures.read;
+      still = search rules;
     }

@@ -1,7 +1,7 @@
 use Rattle.gm_registry.proofs.Common.{[], ap, Database, state, if_ok, if_err, map_ok, alone_ok, shown_has, last_command_text, registry_schema, HasCounted}
 use Rattle.gm_registry.proofs.TextMeanings.{last_is}
 use Rattle.gm_registry.proofs.LastCommand.{lasts}
-use Rattle.gm_registry.proofs.CallsLeave.{query_reads}
+use Rattle.gm_registry.proofs.CallsLeave.{query_failed, query_read, query_reads}
 use Rattle.gm_registry.proofs.Failures.{last_failed}
 use Rattle.gm_registry.proofs.ReadsInTurn.{ours}
 use Rattle.gm_registry.proofs.replies.last_command.Goals as goal
@@ -22,6 +22,18 @@ returns-clause-reads g c =
     query_reads g.S.Store g.met.S.Store.settled c.args.conn.now c.query_all.new.self
     c.query_all.result (λ rows. rows.items) last_command_text _ last_is.plain c.query_all.ensures.ok
     c.query_all.ensures.err c.query_all.ensures.survives
+
+pub returns-clause-read : goal.returns-clause-read
+returns-clause-read g c =
+    query_read g.S.Store c.args.conn.now c.query_all.new.self (λ rows. rows.items)
+    last_command_text _ last_is.plain c.query_all.ensures.survives c.query_all.result
+    c.query_all.ensures.ok
+
+pub returns-clause-failed : goal.returns-clause-failed
+returns-clause-failed g c =
+    query_failed g.S.Store c.args.conn.now c.query_all.new.self (λ rows. rows.items)
+    last_command_text _ last_is.plain c.query_all.ensures.survives c.query_all.result
+    c.query_all.ensures.err
 
 pub returns-clause-store : goal.returns-clause-store
 returns-clause-store g c clean =

@@ -1,6 +1,7 @@
-use Rattle.gm_registry.proofs.Common.{rules, arith, sym, ap, ◌∙◌, length, slice_get, bytes_eq-Decides, has_got, passed_on}
+use Rattle.gm_registry.proofs.Common.{rules, arith, sym, ap, ◌∙◌, length, slice_get, bytes_eq-Decides, has_got, state, passed_on}
 use Rattle.gm_registry.proofs.FoundReply.{no_reply, found_row, a_reply}
 use Rattle.gm_registry.proofs.CallsLeave.{saved}
+use Rattle.gm_registry.proofs.ReadsInTurn.{failed_leaves, read_leaves, registry_stays}
 use Rattle.gm_registry.proofs.replies.reply_on.Goals as goal
 
 pub returns-in-None : goal.returns-in-None
@@ -16,6 +17,10 @@ returns-in-None g c =
       unreadable = search rules;
       store = search rules;
       reads = search rules;
+      untouched = read_leaves (state g.S.Store c.args.conn.now)
+          (state g.S.Store c.find_command.new.conn) c.in_ok-rows.ensures.read;
+      still = registry_stays (state g.S.Store c.args.conn.now)
+          (state g.S.Store c.find_command.new.conn) c.in_ok-rows.ensures.read;
     }
 
 pub returns : goal.returns
@@ -35,6 +40,23 @@ returns g c =
       unreadable = search rules;
       store = search rules;
       reads = search rules;
+      untouched = read_leaves (state g.S.Store c.args.conn.now)
+          (state g.S.Store c.find_command.new.conn) c.in_ok-rows.ensures.read;
+      still = registry_stays (state g.S.Store c.args.conn.now)
+          (state g.S.Store c.find_command.new.conn) c.in_ok-rows.ensures.read;
+    }
+
+pub returns-in_err-rows : goal.returns-in_err-rows
+returns-in_err-rows g c =
+    record {
+      found = search rules;
+      range = search rules;
+      unreadable = search rules;
+      store = search rules;
+      reads = search rules;
+      untouched = failed_leaves (state g.S.Store c.args.conn.now)
+          (state g.S.Store c.find_command.new.conn) c.in_err-rows.ensures.failed;
+      still = search rules;
     }
 
 pub returns-in_err-kept-in-Some : goal.returns-in_err-kept-in-Some
@@ -57,4 +79,7 @@ returns-in_err-kept-in-Some g c =
           (λ e same is t was. absurd (c.in_err-kept-in-Some.ensures.fault (sym same ∙ is)))
           c.from_residual-in_err-kept-in-Some.ensures.1;
       reads = search rules;
+      untouched = read_leaves (state g.S.Store c.args.conn.now)
+          (state g.S.Store c.find_command.new.conn) c.in_ok-rows.ensures.read;
+      still = search rules;
     }

@@ -51,6 +51,9 @@ returns-in-Ok-take_up-clause-opened g c =
           c.args.shelf (it.opened (mid clean)) away u w was in
           (c.in-Ok-take_up.ensures.done h clean away was.recovers.intents was.recovers.bytes u w
           at).0);
+      readable = λ is_open clean t stands. (
+          let it = c.in-Ok.ensures.opens is_open in
+          c.in-Ok-take_up.ensures.tells.readable clean t (it.opened (mid clean) t stands));
       there = λ is_open clean t s ts bytes stands of. (
           let it = c.in-Ok.ensures.opens is_open in
           c.in-Ok-take_up.ensures.tells.there clean t s ts bytes (it.opened (mid clean) t stands)

@@ -86,9 +86,9 @@ returns-in-Err-clause-unopened g c =
       lacks = search rules;
       untouched = λ before. record {
         shelf_is = refl;
-        alone = λ is_open clean sound t stands.
+        alone = λ is_open clean sound.
             ((c.in-Err.ensures.opens is_open).second sound).alone;
-        first_alone = λ is_open clean sound t stands.
+        first_alone = λ is_open clean sound.
             let over = (c.in-Err.ensures.opens is_open).first sound in
             record { tables = λ kept still. inl (over.stays kept still); crash = over.left };
       };
@@ -147,6 +147,9 @@ returns-in-Ok-Carried-clause-opened g c =
           c.take_up_without.new.self.shelf x) c.in-Ok-Carried.field-0-is
           (c.in-Ok-Carried.ensures.undone h clean)));
       ready = search rules;
+      readable = λ is_open clean t stands. (
+          let it = c.in-Ok.ensures.opens is_open in
+          c.in-Ok-Carried.ensures.tells.readable clean t (it.opened (mid clean) t stands));
       refused = search rules;
     }
 
@@ -185,6 +188,11 @@ returns-in-Ok-NotLost-clause-opened g c =
           c.args.shelf lawful only (mid clean) it.left (it.opened (mid clean))
           c.take_up_without.new.self.registry c.take_up_without.new.self.shelf keeps));
       ready = search rules;
+      readable = λ is_open closed t stands. (
+          let clean : DiskKept g.S.Store c.take_up_without.new.self.registry =
+          subst (λ (k : Held g.row.S.Denot). DiskKept g.S.Store k) c.close.ensures closed in
+          let it = c.in-Ok.ensures.opens is_open in
+          c.in-Ok-NotLost.ensures.tells.readable clean t (it.opened (mid clean) t stands));
       refused =
           let unwritten : IsUnwritten (Ok c.in-Ok-NotLost.field-0) =
           subst (λ (x : TakenUp). IsUnwritten (Ok x)) (sym c.in-Ok-NotLost.field-0-is) tt in
@@ -194,7 +202,7 @@ returns-in-Ok-NotLost-clause-opened g c =
           c.take_up_without.new.self.registry c.args.shelf c.take_up_without.new.self.shelf
           (c.in-Ok-NotLost.ensures.before.shelf unwritten) c.take_up_without.ensures.keep.clean
           c.in-Ok.ensures.opens
-          (λ clean t has. c.in-Ok-NotLost.ensures.before.registry clean unwritten t has));
+          (λ clean. c.in-Ok-NotLost.ensures.before.registry clean unwritten));
     }
 
 pub returns-in-Err-take_up_without-clause-unopened :
@@ -228,7 +236,7 @@ returns-in-Err-take_up_without-clause-unopened g c =
           c.take_up_without.new.self.registry c.args.shelf c.take_up_without.new.self.shelf
           (c.in-Err-take_up_without.ensures.before.shelf before)
           c.take_up_without.ensures.keep.clean c.in-Ok.ensures.opens
-          (λ clean t has. c.in-Err-take_up_without.ensures.before.registry clean before t has));
+          (λ clean. c.in-Err-take_up_without.ensures.before.registry clean before));
       disk = λ is_open closed is t stands. (
           let clean : DiskKept g.S.Store c.take_up_without.new.self.registry =
           subst (λ (k : Held g.row.S.Denot). DiskKept g.S.Store k)

@@ -1,6 +1,6 @@
-use Rattle.gm_bench.proofs.Common.{rules, ◌≡◌, ◌∙◌, ◌+◌, ◌≤◌, List, ℕ, arith, length, subst, sym, saved, Changed, with_pending, settled, HasTables, MayLeave, seen, Tables, FitsTables, less_room, most_rows, Store}
+use Rattle.gm_bench.proofs.Common.{rules, ◌≡◌, ◌∙◌, ◌+◌, ◌≤◌, List, ℕ, arith, length, subst, sym, saved, Changed, with_pending, settled, HasTables, MayLeave, seen, Tables, FitsTables, less_room, most_rows, Store, Unreadable}
 use Rattle.gm_bench.proofs.LossCommits.{commits, lost, same_behind, same_pending}
-use Rattle.gm_bench.proofs.Causes.{of_failed}
+use Rattle.gm_bench.proofs.Causes.{of_failed, of_unreadable}
 use Rattle.gm_bench.proofs.FittingLosses.{loss_fits_tables}
 use Rattle.gm_bench.proofs.media.Media.commit_loss.Goals as goal
 
@@ -34,6 +34,7 @@ returns-in-Ok g c =
         counts = (c.accept_instead.ensures.writes.left t has).counts;
         limit = (c.accept_instead.ensures.writes.left t has).limit;
       };
+      untouched = search rules;
       alone = record {
         shelf = search rules;
         clean = search rules;
@@ -71,6 +72,10 @@ returns-in-Err g c =
           (less_room (length loss.change.components + 2) most_rows
           (seen g.S.Store c.args.self.now.registry) (omega (arith, few)) room);
       goes_on = search rules;
+      untouched = λ is.
+          let fault : c.of_store.result ≡ Unreadable = cc in
+          c.in-Err.ensures.accepts.untouched (of_unreadable c.in-Err.fault
+          (sym c.of_store.ensures.value ∙ fault));
       alone = record {
         shelf = search rules;
         clean = search rules;

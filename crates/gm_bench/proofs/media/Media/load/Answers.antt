@@ -32,6 +32,7 @@ returns-in-Err g c =
             c.in-Err.ensures.store clean (of_failed c.in-Err.fault
             (sym c.of_store.ensures.value ∙ fault)) registry;
         untouched = search rules;
+        still = search rules;
         fault = search rules;
         reads = search rules;
         shelf = search rules;

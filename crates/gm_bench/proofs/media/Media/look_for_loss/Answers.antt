@@ -82,7 +82,9 @@ returns g c =
           looks_then g.S.Store c.args.self.now c.load.new.self c.judge_loss.new.self
           c.judge_loss.result _ c.load.ensures.loads.shelf c.load.ensures.loads.reads
           c.judge_loss.ensures.looks
-          (λ clean t has. (c.in_ok-loaded.ensures.loaded clean t has).1) (search rules);
+          (λ clean t has. (c.in_ok-loaded.ensures.loaded clean t has).1)
+          c.load.ensures.loads.untouched c.in_ok-loaded.ensures.loads.still
+          c.in_ok-judged.ensures.looks.still (search rules);
     }
 
 pub returns-in_err-judged : goal.returns-in_err-judged
@@ -105,5 +107,7 @@ returns-in_err-judged g c =
           looks_then g.S.Store c.args.self.now c.load.new.self c.judge_loss.new.self
           c.judge_loss.result _ c.load.ensures.loads.shelf c.load.ensures.loads.reads
           c.judge_loss.ensures.looks
-          (λ clean t has. (c.in_ok-loaded.ensures.loaded clean t has).1) (search rules);
+          (λ clean t has. (c.in_ok-loaded.ensures.loaded clean t has).1)
+          c.load.ensures.loads.untouched c.in_ok-loaded.ensures.loads.still (search rules)
+          (search rules);
     }

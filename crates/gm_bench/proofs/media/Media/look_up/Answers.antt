@@ -1,5 +1,5 @@
 use Rattle.gm_bench.proofs.Common.{rules, ◌∙◌, refl, sym, subst, arith, string_bytes, true≢false, MatchOption, DiskKept, IsExpected, IsFree, IsKept}
-use Rattle.gm_bench.proofs.DecidesOnly.{looks_then, ok_then, reads_none}
+use Rattle.gm_bench.proofs.DecidesOnly.{alone_none, looks_then, ok_then, reads_none}
 use Rattle.gm_bench.proofs.JudgedByKey.{told_room}
 use Rattle.gm_bench.proofs.StoreFails.{failed_later}
 use Rattle.gm_bench.proofs.media.Media.look_up.Goals as goal
@@ -15,6 +15,8 @@ returns-then-not-is_key g c =
         clean = search rules;
         reads = λ clean.
             reads_none g.S.Store g.met.S.Store.settled c.args.self.now.registry;
+        untouched = λ clean is. alone_none g.S.Store c.args.self.now.registry;
+        still = λ clean is. is;
         fault = search rules;
       };
     }
@@ -103,5 +105,7 @@ returns-in-Ok-None g c =
           (record { registry = c.reply_of.new.self; shelf = c.args.self.now.shelf })
           c.look_for_room.new.self c.look_for_room.result c.look_for_room.result refl
           c.reply_of.ensures.reads c.look_for_room.ensures.looks
-          (λ clean t has. (c.in-Ok-None.ensures.found clean t has).1.tables) (search rules);
+          (λ clean t has. (c.in-Ok-None.ensures.found clean t has).1.tables)
+          c.reply_of.ensures.untouched c.in-Ok-None.ensures.still
+          c.look_for_room.ensures.looks.still (search rules);
     }

@@ -41,6 +41,12 @@ returns g c =
           let many : c.len.result ≡ length ts = items ∙ ap length said.1 in
           (many, c.in_ok-check_and_finish.ensures.done h1 clean away u w found said.0);
       tells = record {
+        readable = λ clean t has. (
+          c.in_ok-loaded.loaded.state,
+          c.in_ok-loaded.loaded.intents.items,
+          c.in_ok-loaded.loaded.bytes.items,
+          (c.in_ok-loaded.ensures.loaded (clean1 clean) t has).0,
+        );
         there = λ clean t s ts bytes has of. (
             let said = c.in_ok-loaded.ensures.loaded (clean1 clean) t has in
             let same = one_reading same_mirror same_component t c.in_ok-loaded.loaded.state s
@@ -83,6 +89,7 @@ returns-in_err-check_and_finish g c =
           (c.check_and_finish.ensures.leaves h1 clean away u w found said.0);
       done = search rules;
       tells = record {
+        readable = search rules;
         there = search rules;
         absent = λ clean p is t s ts bytes has of. (
             let said = c.in_ok-loaded.ensures.loaded (clean1 clean) t has in
@@ -142,6 +149,7 @@ returns-in_err-loaded g c =
           (λ x l. at.leads x (lawful.only_now x l)) at.leads);
       done = search rules;
       tells = record {
+        readable = search rules;
         there = search rules;
         absent = search rules;
         disk = search rules;

@@ -2,7 +2,7 @@ use Rattle.gm_bench.proofs.Common.{rules, ◌≡◌, ◌⊎◌, ◌∙◌, ◌<�
 use Rattle.gm_bench.proofs.LossCarried.{finished_opened, judged_new, lost_behind, nothing_opened}
 use Rattle.gm_bench.proofs.TakenUp.{absent_back, moved}
 use Rattle.gm_bench.proofs.Causes.{absent_or_unreadable, fault_is, only_absent, passed_unwritten}
-use Rattle.gm_bench.proofs.DecidesOnly.{alone_read, unlost_read}
+use Rattle.gm_bench.proofs.DecidesOnly.{alone_then, unlost_looked}
 use Rattle.gm_bench.specs.declared.fault.BenchFault.TheVariants.{Absent}
 use Rattle.gm_bench.proofs.StoreFails.{failed_later, room_later}
 use Rattle.gm_bench.proofs.media.Media.take_up_without.Goals as goal
@@ -19,10 +19,11 @@ returns-in_err-looked g c =
       does = search rules;
       undone = search rules;
       before =
-          unlost_read g.S.Store c.args.self.now c.look_for_loss.new.self c.look_for_loss.result
+          unlost_looked g.S.Store c.args.self.now c.look_for_loss.new.self c.look_for_loss.result
           c.look_for_loss.ensures.looks _;
       lacks = search rules;
       tells = record {
+        readable = search rules;
         disk = search rules;
         unreadable = λ clean is t s ts bytes has of written.
             let fault = fault_is c.from_residual.result _ _ c.from_residual.ensures.1 is in
@@ -54,10 +55,14 @@ returns-in-Refused g c =
           (λ t has. (saved g.S.Store g.met.S.Store.settled c.args.self.now.registry t has).crash)
           c.args.key.now c.args.provider clean (c.look_for_loss.ensures.looks.reads clean).left;
       before =
-          unlost_read g.S.Store c.args.self.now c.look_for_loss.new.self c.look_for_loss.result
+          unlost_looked g.S.Store c.args.self.now c.look_for_loss.new.self c.look_for_loss.result
           c.look_for_loss.ensures.looks _;
       lacks = search rules;
       tells = record {
+        readable = λ clean t has.
+            let loaded = (c.in_ok-looked.ensures.loaded clean t has).0 in
+            let looked = c.in_ok-looked.looked in
+            (looked.state, looked.intents.items, looked.bytes.items, loaded);
         disk = search rules;
         unreadable = search rules;
         store = search rules;
@@ -102,13 +107,12 @@ returns-in_err-check_and_finish-in-Kept g c =
           record {
             shelf = λ before. ap (λ (m : Media g.row.S.Denot g.row.H.Denot). m.shelf) (same before)
                 ∙ c.look_for_loss.ensures.looks.shelf;
-            registry = λ clean before t has.
+            registry = λ clean before is.
                 let clean1 : DiskKept g.S.Store c.look_for_loss.new.self.registry =
                 omega (arith, clean, c.check_and_finish.ensures.finishes.keep.clean) in
                 subst (λ (m : Media g.row.S.Denot g.row.H.Denot). LeavesAlone g.S.Store
                 c.args.self.now.registry m.registry) (sym (same before))
-                (alone_read g.S.Store c.args.self.now.registry c.look_for_loss.new.self.registry t
-                has (c.look_for_loss.ensures.looks.reads clean1));
+                (c.look_for_loss.ensures.looks.untouched clean1 is);
           };
       lacks = λ h clean q is.
           let j = g.H.Shelf in
@@ -140,6 +144,7 @@ returns-in_err-check_and_finish-in-Kept g c =
                 )),
           );
       tells = record {
+        readable = search rules;
         disk = λ clean t has is.
             let j = g.H.Shelf in
             let clean1 : DiskKept g.S.Store c.look_for_loss.new.self.registry =
@@ -224,10 +229,16 @@ returns-in-Kept g c =
       undone = opened;
       before = record {
         shelf = λ before. absurd before;
-        registry = λ clean before t has. absurd before;
+        registry = λ clean before. absurd before;
       };
       lacks = search rules;
       tells = record {
+        readable = λ clean t has.
+            let clean1 : DiskKept g.S.Store c.look_for_loss.new.self.registry =
+            omega (arith, clean, c.check_and_finish.ensures.finishes.keep.clean) in
+            let loaded = (c.in_ok-looked.ensures.loaded clean1 t has).0 in
+            let looked = c.in_ok-looked.looked in
+            (looked.state, looked.intents.items, looked.bytes.items, loaded);
         disk = search rules;
         unreadable = search rules;
         store = search rules;
@@ -284,17 +295,19 @@ returns-in_err-number-in-New g c =
                   (lose.absent it.0 (ap Err it.1)).1 ∙ c.look_for_loss.ensures.looks.shelf
               | inr is ↦ lose.unread (ap Err is) ∙ c.look_for_loss.ensures.looks.shelf
             ];
-            registry = λ clean before t has.
+            registry = λ clean before is.
                 let clean1 : DiskKept g.S.Store c.look_for_loss.new.self.registry =
                 omega (arith, clean, c.lose.ensures.keep.clean) in
-                let loaded = c.in_ok-looked.ensures.loaded clean1 t has in
+                let left = c.look_for_loss.ensures.looks.untouched clean1 is in
                 elim (cause before) [
                   | inl it ↦ subst (λ (m : Media g.row.S.Denot g.row.H.Denot). LeavesAlone g.S.Store
                       c.args.self.now.registry m.registry) (sym (lose.absent it.0 (ap Err it.1)).1)
-                      (alone_read g.S.Store c.args.self.now.registry
-                      c.look_for_loss.new.self.registry t has (c.look_for_loss.ensures.looks.reads
-                      clean1))
-                  | inr is ↦ absurd (lose.readable clean (ap Err is) t loaded.1 loaded.0.count)
+                      left
+                  | inr unread ↦
+                      let still = c.in_ok-looked.ensures.looks.still clean1 is in
+                      alone_then g.S.Store c.args.self.now.registry
+                      c.look_for_loss.new.self.registry c.lose.new.self.registry still
+                      c.lose.ensures.keep.clean left (lose.untouched (ap Err unread) still)
                 ];
           };
       lacks = λ h clean q is.
@@ -326,6 +339,7 @@ returns-in_err-number-in-New g c =
                 )),
           );
       tells = record {
+        readable = search rules;
         disk = λ clean t has is.
             let j = g.H.Shelf in
             let clean1 : DiskKept g.S.Store c.look_for_loss.new.self.registry =
@@ -436,10 +450,16 @@ returns g c =
       undone = search rules;
       before = record {
         shelf = λ before. absurd before;
-        registry = λ clean before t has. absurd before;
+        registry = λ clean before. absurd before;
       };
       lacks = search rules;
       tells = record {
+        readable = λ clean t has.
+            let clean1 : DiskKept g.S.Store c.look_for_loss.new.self.registry =
+            omega (arith, clean, c.lose.ensures.keep.clean) in
+            let loaded = (c.in_ok-looked.ensures.loaded clean1 t has).0 in
+            let looked = c.in_ok-looked.looked in
+            (looked.state, looked.intents.items, looked.bytes.items, loaded);
         disk = search rules;
         unreadable = search rules;
         store = search rules;
