@@ -6,7 +6,7 @@ use Rattle.gm_bench.proofs.Induction.{at_rest as reached_at_rest}
 use Rattle.gm_front.specs.declared.answer_lines.BatchEnd.TheVariants as end
 
 -- one more call, handed in last
-with_last : (calls : List run.Call) (call : run.Call) (entries : List Entry)
+pub with_last : (calls : List run.Call) (call : run.Call) (entries : List Entry)
     → with_calls (calls ++ call ∷ []) entries ≡ Handed_in call ∷ with_calls calls entries
 with_last [] call entries = refl
 with_last (first ∷ calls) call entries = with_last calls call (Handed_in first ∷ entries)
@@ -16,7 +16,7 @@ none_within [] = none
 none_within (x ∷ xs) = skips (none_within xs)
 
 -- some of these, one more, and others that are left out
-within_and : {A : Type 0} {xs ys : List A} (a : A) (more : List A) → Within xs ys
+pub within_and : {A : Type 0} {xs ys : List A} (a : A) (more : List A) → Within xs ys
     → Within (xs ++ a ∷ []) (ys ++ a ∷ more)
 within_and a more none = keeps (none_within more)
 within_and a more (skips it) = skips (within_and a more it)
@@ -185,8 +185,9 @@ module _ (all : Sizes) where
         }
 
     -- what a stop leaves within the next call
-    next_leads : (handed : List run.Call) (call : run.Call) (r s : Held S) (h k : H) (away : Image)
-        (acc ack : List Entry) (it : AreCarriedBehind g j all handed r h away acc ack)
+    pub next_leads : (handed : List run.Call) (call : run.Call) (r s : Held S) (h k : H)
+        (away : Image) (acc ack : List Entry)
+        (it : AreCarriedBehind g j all handed r h away acc ack)
         (left : LeavesNext g j r s h k away it.before it.world call.key call.command)
         (db : Trees) (l : H) (after : List Entry)
         → IsLeftIn db (Handed_in call) (with_calls it.calls acc) after
@@ -269,8 +270,10 @@ module _ (all : Sizes) where
     batch_leaves r h away acc ack input before now s k (Err fault) rest (inr (inl b)) =
         inr (inl (stops r s h k away acc ack input _ b.0 rest b.1))
     batch_leaves r h away acc ack input before now s k (Err fault) rest (inr (inr b)) =
+        let it = b.0 in
         inr (inr (
-          b.lines,
-          b.read,
-          unsettled r s h k away acc ack b.lines b.text b.refused rest b.answered,
+          it.lines,
+          it.read,
+          b.1,
+          unsettled r s h k away acc ack it.lines it.text it.refused rest it.answered,
         ))

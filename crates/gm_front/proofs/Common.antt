@@ -2,7 +2,7 @@
 -- Declares nothing.
 pub use Rattle.sqlite.specs.Held.{Held}
 pub use Rattle.sqlite.specs.Tree.{Trees}
-pub use Rattle.std.proofs.Common.{◌≡◌, ◌∙◌, ◌⊎◌, inl, inr, ℕ, Bool, List, [], ◌∷◌, ◌++◌, Option, Result, Ok, Err, refl, sym, ap, subst, subst₂, Some, arith, IsErrAnd, IfErr, append-nil, None, IfSome, IfOk, ◌≢◌, ◌<◌, ◌≤◌, ◌||◌, ◌+◌, nat_lt, true, false, codes, length, take, replicate, drop, rules, ◌-◌, map, min, Vec, Global}
+pub use Rattle.std.proofs.Common.{◌≡◌, ◌∙◌, ◌⊎◌, inl, inr, ℕ, Bool, List, [], ◌∷◌, ◌++◌, Option, Result, Ok, Err, refl, sym, ap, subst, subst₂, Some, arith, IsErrAnd, IfErr, append-nil, None, IfSome, IfOk, IsSome, OnSome, ◌≢◌, ◌<◌, ◌≤◌, ◌||◌, ◌+◌, nat_lt, true, false, codes, length, take, replicate, drop, rules, ◌-◌, map, min, Vec, Global}
 pub use Rattle.std.proofs.KnownBytes.{Appends-trans, Appends-nil, Keeps-refl}
 pub use Rattle.std.proofs.lemmas.List.{append_assoc, length-replicate, length-take, map-append, take-append-drop, take_all, length-drop}
 pub use Rattle.std.specs.Io.KnownBytes.{Appends, Keeps}
@@ -20,6 +20,9 @@ pub use Rattle.gm_looks.proofs.Common.{IsUnlike}
 pub use Rattle.gm_looks.specs.declared.{unlike.Unlike.Unlike}
 pub use Rattle.gm_words.specs.Lines.{texts}
 pub use Rattle.gm_lines.proofs.Common.{Asked, Nothing, Wrong, Call, asked, asked_at, IsLine, line_at, asked_of, IsAhead}
+pub use Rattle.gm_lines.specs.Asked.{IsAheadIn, IsNext}
+pub use Rattle.gm_lines.specs.Input.{BeginsWith}
+pub use Rattle.gm_lines.specs.declared.{ahead.Ahead.Ahead}
 pub use Rattle.gm_lines.specs.declared.{lines.Line.TheVariants.End, lines.Line.TheVariants.Whole, lines.Line.TheVariants.Long}
 pub use Rattle.gm_json.proofs.Common.{mirror_json, status_json}
 pub use Rattle.gm_http.proofs.Common.{code_of, IsFromPage, Sends, Asks}
@@ -36,7 +39,7 @@ pub use Rattle.gm_bench.proofs.RegistryLeaves.{read_only, then_only}
 pub use Rattle.gm_bench.proofs.Standing.{stands_rest, rest_stands, carried_so, carried_records, carried_tables, else_none}
 pub use Rattle.gm_bench.proofs.StoreFails.{failed_behind}
 pub use Rattle.gm_bench.specs.declared.{answer.Answer.Answer, bench.Bench.Bench, fault.BenchFault.BenchFault, fault.BenchFault.TheVariants.Store, fault.BenchFault.TheVariants.Unreadable, phase.Progress.Progress, phase.Progress.TheVariants.Failed, phase.Progress.TheVariants.Ready, phase.Progress.TheVariants.Pending, phase.Progress.TheVariants.Applied}
-pub use Rattle.gm_front.specs.Batch.{Answers, AreAnswered, AreCarriedOut, AreUnsettled, Batches, IsLast, Replies, Stops, AppendsFront, AreFirst, AreLines, AreStanding, HandsIn, IsFarAfterLines, IsFarAtEnd, progress_at, unsettled_fault, Breaks, Ends}
+pub use Rattle.gm_front.specs.Batch.{Answers, AreAnswered, AreCarriedOut, AreUnsettled, Batches, IsLast, Replies, Stops, AppendsFront, AreFirst, AreLines, AreStanding, HandsIn, IsFarAfterLines, IsFarAtEnd, LeavesLines, progress_at, unsettled_fault, Breaks, Ends}
 pub use Rattle.gm_front.specs.BatchRuns.{with_asked, calls_of, StopsAtLine, BatchLeaves}
 pub use Rattle.gm_front.specs.Closing.{end_fault, outcome_fault}
 pub use Rattle.gm_front.specs.Demands.{Demand, demand_of, TurnedDown, AllMirrors, OneMirror, LastSector, NoCommand, Carry, Told, Responds, told_as, mirror_told}
@@ -45,7 +48,7 @@ pub use Rattle.gm_front.specs.GuardedServices.{FindsUnlessWithheld, FoundBehindL
 pub use Rattle.gm_front.specs.Guards.{OnlyLooks, StoodInTheWay}
 pub use Rattle.gm_front.specs.HandedIn.{AreCarriedBehind, IsAtRestBehind, IsNextStop, IsStoppedAt, IsStoppedSettling, with_calls}
 pub use Rattle.gm_front.specs.Heard.{AreHeard, Heard, HearsBatch, Hears, WasTold, answers_heard, handed_at, handed_on}
-pub use Rattle.gm_front.specs.Outcomes.{IsAnsweredNext, ComesTo, IsFarAfter, IsWaiting, NextComesTo, is_refused, text_of}
+pub use Rattle.gm_front.specs.Outcomes.{IsAnsweredNext, IsAskedBy, ComesTo, IsFarAfter, IsWaiting, NextComesTo, is_refused, text_of}
 pub use Rattle.gm_front.specs.ServedRuns.{calls_in, IsStoppedIn, IsServed, ServedLeaves, ServedUnlessPage}
 pub use Rattle.gm_front.specs.Services.{TurnsAway, bytes_of, code_told, page_told, Serves, Tells, ServesUnlessPage}
 pub use Rattle.gm_front.specs.Told.{refusal_line}

@@ -1,5 +1,5 @@
 -- What a listener hears of a batch, one line after the other.
-use Rattle.gm_front.proofs.Common.{◌≡◌, ◌≢◌, ◌∙◌, ◌⊎◌, inl, inr, ◌<◌, ◌≤◌, nat_lt, ℕ, Bool, true, false, refl, sym, ap, subst, arith, List, [], ◌∷◌, ◌++◌, length, map, take, min, Option, Some, None, Result, Ok, Err, IfOk, IfSome, append-nil, append_assoc, length-take, map-append, Appends, Appends-nil, Appends-trans, BenchFault, BatchEnd, FrontFault, Memory, Read, Write, End, Whole, Long, IsLine, line_at, AppendsFront, AreFirst, unsettled_fault, Heard, HearsBatch, Hears, AreHeard, WasTold, answers_heard, handed_at, handed_on}
+use Rattle.gm_front.proofs.Common.{◌≡◌, ◌≢◌, ◌∙◌, ◌⊎◌, inl, inr, ◌<◌, ◌≤◌, nat_lt, ℕ, Bool, true, false, refl, sym, ap, subst, arith, List, [], ◌∷◌, ◌++◌, length, map, take, Option, Some, None, Result, Ok, Err, IfOk, IfSome, append-nil, append_assoc, length-take, map-append, Appends, Appends-nil, Appends-trans, BenchFault, BatchEnd, FrontFault, Memory, Read, Write, End, Whole, Long, IsLine, line_at, AppendsFront, AreFirst, unsettled_fault, Heard, HearsBatch, Hears, AreHeard, WasTold, answers_heard, handed_at, handed_on}
 use Rattle.std.proofs.lemmas.Bool.Decides.{nat_tests}
 use Rattle.std.proofs.lemmas.List.Concat.{flat_map-append}
 use Rattle.gm_lines.specs.Input.{Fits}

@@ -5,6 +5,7 @@ pub mod Heard
 pub mod ManyLooks
 pub mod NextLines
 pub mod Pages
+pub mod ReadAhead
 pub mod RequestsServed
 pub mod ServedRuns
 pub mod Settled

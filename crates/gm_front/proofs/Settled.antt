@@ -1,6 +1,7 @@
 -- The end of a batch, after what was still to be settled is settled.
-use Rattle.gm_front.proofs.Common.{◌≡◌, ◌∙◌, inl, inr, ℕ, Bool, List, [], Option, Some, None, Result, Ok, Err, IfOk, refl, sym, ap, subst, append-nil, Ghosts, Held, Image, World, Bench, Progress, Ready, Pending, Applied, Failed, SettleDoes, SettleLeaves, TakesCommands, TakesNext, phase_of, rest_stands, BatchEnd, FrontFault, BenchFault, end_fault, AreAnswered, AreFirst, AreLines, AreStanding, AreUnsettled, Batches, Breaks, Ends, HandsIn, IsFarAtEnd, progress_at, unsettled_fault}
+use Rattle.gm_front.proofs.Common.{◌≡◌, ◌∙◌, inl, inr, ℕ, Bool, List, [], Option, Some, None, Result, Ok, Err, IfOk, ◌≢◌, refl, sym, ap, subst, append-nil, Ghosts, Held, Image, World, Bench, Progress, Ready, Pending, Applied, Failed, SettleDoes, SettleLeaves, TakesCommands, TakesNext, phase_of, rest_stands, BatchEnd, FrontFault, BenchFault, end_fault, AreAnswered, AreFirst, AreLines, AreStanding, AreUnsettled, Batches, Breaks, Ends, HandsIn, IsFarAtEnd, progress_at, unsettled_fault}
 use Rattle.std.specs.Prelude.{OnOk}
+use Rattle.std.proofs.lemmas.Option.{IfSome_then}
 use Rattle.gm_shelf.specs.declared.shelf.Shelf.{Ghosts as ShelfGhosts}
 use Rattle.gm_bench.specs.declared.answer.Work.{Work}
 use Rattle.gm_bench.specs.declared.phase.Phase.TheVariants as phase
@@ -18,6 +19,11 @@ has_applied Failed is = cc
 pub takes_rest : (p : Progress) → TakesNext p → (phase_of p ≡ phase.Applied → ⊥) → TakesCommands p
 takes_rest p (inl takes) other = takes
 takes_rest p (inr is) other = absurd (other is)
+
+-- what takes a command has nothing to settle
+pub rests : (p : Progress) → TakesCommands p → phase_of p ≢ phase.Applied
+rests p (inl is) applied = cc
+rests p (inr is) applied = cc
 
 -- the fault is the one before
 pub same_fault : (given after : Result BatchEnd FrontFault) {f : BenchFault}
@@ -99,9 +105,9 @@ module _ {S H : Type 0} (g : Ghosts S) (j : ShelfGhosts H)
     pub ends_rest : (ended : Result BatchEnd FrontFault)
         → HandsIn g j p input before now r h away u ended
         → Batches g j input before now r h away u ended
-    ends_rest (Ok (end.Ended refused)) it = ends_by rest_answered it
+    ends_rest (Ok (end.Ended refused)) it = ends_by rest_answered it.0
     ends_rest (Ok (end.Stopped fault)) it = it.1
-    ends_rest (Err fault) (inl it) = inl (breaks_by rest_answered it)
+    ends_rest (Err fault) (inl it) = inl (breaks_by rest_answered it.0)
     ends_rest (Err fault) (inr (f, is, stops)) = inr (inl (f, stops))
 
   module _ (work : Work) (s : Held S) where
@@ -118,9 +124,9 @@ module _ {S H : Type 0} (g : Ghosts S) (j : ShelfGhosts H)
     pub ends_settled : SettleDoes g j r s h work → (ended : Result BatchEnd FrontFault)
         → HandsIn g j (Applied work) input before now r h away u ended
         → Batches g j input before now s h away u ended
-    ends_settled does (Ok (end.Ended refused)) it = ends_by (settled_answered does) it
+    ends_settled does (Ok (end.Ended refused)) it = ends_by (settled_answered does) it.0
     ends_settled does (Ok (end.Stopped fault)) (is, stops) = absurd (let no : ⊥ = cc in no)
-    ends_settled does (Err fault) (inl it) = inl (breaks_by (settled_answered does) it)
+    ends_settled does (Err fault) (inl it) = inl (breaks_by (settled_answered does) it.0)
     ends_settled does (Err fault) (inr (f, is, stops)) = absurd (let no : ⊥ = cc in no)
 
     left_unsettled : SettleLeaves g j r s h work → (lines : List (List ℕ)) (text : List ℕ)
@@ -138,14 +144,19 @@ module _ {S H : Type 0} (g : Ghosts S) (j : ShelfGhosts H)
         → (ended : Result BatchEnd FrontFault)
         → HandsIn g j (Applied work) input before now r h away u ended
         → Batches g j input before now s h away u (Err (unsettled_fault ended))
-    ends_unsettled leaves (Ok (end.Ended refused)) it = inr (inr (record {
-      lines = it.lines;
-      text = it.text;
-      refused = refused;
-      read = all_first input it.lines it.read;
-      told = it.told;
-      answered = left_unsettled leaves it.lines it.text refused it.answered;
-    }))
+    unfolding breaks_by
+    ends_unsettled leaves (Ok (end.Ended refused)) (it, settled) = inr (inr (
+      record {
+        lines = it.lines;
+        text = it.text;
+        refused = refused;
+        read = all_first input it.lines it.read;
+        told = it.told;
+        answered = left_unsettled leaves it.lines it.text refused it.answered;
+      },
+      IfSome_then input settled (λ bytes no. absurd (no refl)),
+    ))
     ends_unsettled leaves (Ok (end.Stopped fault)) (is, stops) = absurd (let no : ⊥ = cc in no)
-    ends_unsettled leaves (Err fault) (inl it) = inr (inr (breaks_by (left_unsettled leaves) it))
+    ends_unsettled leaves (Err fault) (inl it) =
+        inr (inr (breaks_by (left_unsettled leaves) it.0, it.1 refl))
     ends_unsettled leaves (Err fault) (inr (f, is, stops)) = absurd (let no : ⊥ = cc in no)

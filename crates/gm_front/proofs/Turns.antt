@@ -1,5 +1,5 @@
 -- One line of a batch after the other.
-use Rattle.gm_front.proofs.Common.{◌≡◌, ◌≢◌, ◌∙◌, ◌⊎◌, inl, inr, ◌<◌, ◌≤◌, ◌||◌, ◌+◌, nat_lt, ℕ, Bool, true, false, refl, sym, ap, subst, subst₂, arith, List, [], ◌∷◌, ◌++◌, codes, length, take, replicate, Option, Some, None, IfSome, append-nil, append_assoc, length-replicate, Appends, Appends-trans, Appends-nil, Ghosts, Held, Image, Command, World, Step, DiskKept, WasClean, BenchFault, Answer, Progress, TakesCommands, TakesNext, phase_of, Stands, carried_so, stands_rest, IsAt, FrontFault, Memory, Read, Write, End, Whole, Long, Outcome, Answered, refusal_line, Asked, asked_at, IsLine, line_at, Replies, Answers, AppendsFront, AreCarriedOut, AreFirst, AreLines, AreStanding, Breaks, Ends, IsLast, Stops, IsFarAfter, IsWaiting, NextComesTo, is_refused, text_of}
+use Rattle.gm_front.proofs.Common.{◌≡◌, ◌≢◌, ◌∙◌, ◌⊎◌, inl, inr, ◌<◌, ◌≤◌, ◌||◌, ◌+◌, nat_lt, ℕ, Bool, true, false, refl, sym, ap, subst, subst₂, arith, List, [], ◌∷◌, ◌++◌, codes, length, take, replicate, Option, Some, None, IfSome, append-nil, append_assoc, length-replicate, Appends, Appends-trans, Appends-nil, Ghosts, Held, Image, Command, World, Step, DiskKept, WasClean, BenchFault, Answer, Progress, TakesCommands, TakesNext, phase_of, Stands, carried_so, stands_rest, IsAt, FrontFault, Memory, Read, Write, End, Whole, Long, Outcome, Answered, refusal_line, Asked, asked_at, IsLine, line_at, Replies, Answers, AppendsFront, AreCarriedOut, AreFirst, AreLines, AreStanding, Breaks, Ends, LeavesLines, OnSome, IsLast, Stops, IsFarAfter, IsWaiting, NextComesTo, is_refused, text_of}
 use Rattle.std.proofs.lemmas.Bool.Decides.{nat_tests}
 use Rattle.std.specs.Borrow.{Bor}
 use Rattle.std.specs.Io.BufRead.{drop_through}
@@ -7,6 +7,7 @@ use Rattle.gm_shelf.specs.declared.shelf.Shelf.{Ghosts as ShelfGhosts}
 use Rattle.gm_state.specs.declared.intents.Reply.{Reply}
 use Rattle.gm_rules.specs.AbstractCalls as run
 use Rattle.gm_bench.specs.declared.answer.Answer.TheVariants as bench
+use Rattle.gm_bench.specs.declared.phase.Phase.TheVariants as phase
 use Rattle.gm_bench.specs.declared.phase.Progress.TheVariants as progress
 use Rattle.gm_bench.specs.Running.{answer_of}
 use Rattle.gm_lines.specs.declared.lines.Line.{Line}
@@ -130,6 +131,18 @@ pub first_of_left : (input rest : Option (List ℕ)) (lines : List (List ℕ)) �
     → AreFirst input lines
 first_of_left None rest lines left = tt
 first_of_left (Some i) rest lines left = (lines_of left.0, left.2)
+
+-- what waits to be settled does so only if lines are left
+abbrev pub WaitsForLines : Option (List ℕ) → Option (List ℕ) → Progress → Type 0
+WaitsForLines input rest p = (lines : List (List ℕ)) → IsLeft input rest lines
+    → phase_of p ≡ phase.Applied → LeavesLines input lines
+
+-- so nothing waits if all were taken
+pub waits_no_more : (input rest : Option (List ℕ)) (p : Progress) (lines : List (List ℕ))
+    → WaitsForLines input rest p → IsLeft input rest lines → AreLines input lines
+    → OnSome input (phase_of p ≢ phase.Applied)
+waits_no_more None rest p lines waits left all = tt
+waits_no_more (Some i) rest p lines waits left all = λ applied. waits lines left applied all
 
 lines_of_none : lines_of [] ≡ []
 unfolding lines_of
@@ -399,17 +412,21 @@ module _ {S H : Type 0} (g : Ghosts S) (j : ShelfGhosts H) where
 
     -- it isn't told, or not all of it
     pub untold : (Told : List ℕ → Type 0) → GoesOn o → Told (so.text ++ text_of o)
-        → Breaks input Told (AreStanding g j q s k away u)
-    untold Told on told =
-        let next = next_answered on in
-        record {
-          lines = next.more;
-          text = so.text ++ text_of o;
-          refused = refused || is_refused o;
-          read = first_of_left input new next.more next.left;
-          told = told;
-          answered = next.answered;
-        }
+        → WaitsForLines input new q
+        → (it : Breaks input Told (AreStanding g j q s k away u))
+        × (phase_of q ≡ phase.Applied → LeavesLines input it.lines)
+    untold Told on told waits =
+        let next = next_answered on in (
+          record {
+            lines = next.more;
+            text = so.text ++ text_of o;
+            refused = refused || is_refused o;
+            read = first_of_left input new next.more next.left;
+            told = told;
+            answered = next.answered;
+          },
+          waits next.more next.left,
+        )
 
   -- what waits is carried out
   abbrev pub carried : (p : Progress) (s : Held S) (k : H) (away : Image) (u : World)
@@ -478,30 +495,38 @@ module _ {S H : Type 0} (g : Ghosts S) (j : ShelfGhosts H) where
   pub broken : (p : Progress) (input rest before now : Option (List ℕ)) (s : Held S) (k : H)
       (away : Image) (u : World) (refused : Bool) (Told : List ℕ → Type 0)
       (so : Answering p input rest before now s k away u refused) → Told so.text
-      → Breaks input Told (AreStanding g j p s k away u)
-  broken p input rest before now s k away u refused Told so told =
-      record {
-        lines = so.lines;
-        text = so.text;
-        refused = refused;
-        read = first_of_left input rest so.lines so.left;
-        told = told;
-        answered = so.answered;
-      }
+      → WaitsForLines input rest p
+      → (it : Breaks input Told (AreStanding g j p s k away u))
+      × (phase_of p ≡ phase.Applied → LeavesLines input it.lines)
+  broken p input rest before now s k away u refused Told so told waits = (
+    record {
+      lines = so.lines;
+      text = so.text;
+      refused = refused;
+      read = first_of_left input rest so.lines so.left;
+      told = told;
+      answered = so.answered;
+    },
+    waits so.lines so.left,
+  )
 
   pub finished : (p : Progress) (input rest new before now : Option (List ℕ)) (s : Held S) (k : H)
       (away : Image) (u : World) (refused : Bool) (buffer : List ℕ)
       → Answering p input rest before now s k away u refused
-      → IfSome rest (λ bytes. IsLine bytes new buffer End)
+      → IfSome rest (λ bytes. IsLine bytes new buffer End) → WaitsForLines input rest p
       → Ends input before now (AreStanding g j p s k away u) refused
-  finished p input rest new before now s k away u refused buffer so is =
-      record {
-        lines = so.lines;
-        text = so.text;
-        read = all_taken input rest new so.lines buffer so.left is;
-        told = so.told;
-        answered = so.answered;
-      }
+      × OnSome input (phase_of p ≢ phase.Applied)
+  finished p input rest new before now s k away u refused buffer so is waits =
+      let all = all_taken input rest new so.lines buffer so.left is in (
+        record {
+          lines = so.lines;
+          text = so.text;
+          read = all;
+          told = so.told;
+          answered = so.answered;
+        },
+        waits_no_more input rest p so.lines waits so.left all,
+      )
 
   pub told_in_part : (p q : Progress) (input rest new before mid now : Option (List ℕ))
       (r s : Held S) (h k : H) (away : Image) (u : World) (refused : Bool) (buffer : List ℕ)
@@ -511,29 +536,30 @@ module _ {S H : Type 0} (g : Ghosts S) (j : ShelfGhosts H) where
       → Comes p q r s h k away (asked_at buffer found) o
       → ((key : Bor (List ℕ)) (f : BenchFault) → o ≡ Failed key f → q ≡ progress.Failed)
       → (e ≡ Read → ⊥)
-      → AppendsFront mid now (text_of o)
-      → Breaks input (Tells e before now) (AreStanding g j q s k away u)
+      → AppendsFront mid now (text_of o) → WaitsForLines input new q
+      → ((it : Breaks input (Tells e before now) (AreStanding g j q s k away u))
+      × (phase_of q ≡ phase.Applied → LeavesLines input it.lines))
       ⊎ ((f : BenchFault) × (q ≡ progress.Failed)
       × Stops g j input (AppendsFront before now) s k away u f)
   told_in_part p q input rest new before mid now r s h k away u refused buffer found Nothing e so is
-      some comes far not_read wrote =
+      some comes far not_read wrote waits =
       inl (untold p q input rest new before mid r s h k away u refused buffer found Nothing so is
       some comes (Tells e before now) tt (tells_front e before now _ not_read
-      (front_after before mid now so.text _ so.told wrote)))
+      (front_after before mid now so.text _ so.told wrote)) waits)
   told_in_part p q input rest new before mid now r s h k away u refused buffer found
-      (Wrong key) e so is some comes far not_read wrote =
+      (Wrong key) e so is some comes far not_read wrote waits =
       inl (untold p q input rest new before mid r s h k away u refused buffer found
       (Wrong key) so is some comes (Tells e before now) tt
       (tells_front e before now _ not_read
-      (front_after before mid now so.text _ so.told wrote)))
+      (front_after before mid now so.text _ so.told wrote)) waits)
   told_in_part p q input rest new before mid now r s h k away u refused buffer found
-      (Answered key answer) e so is some comes far not_read wrote =
+      (Answered key answer) e so is some comes far not_read wrote waits =
       inl (untold p q input rest new before mid r s h k away u refused buffer found
       (Answered key answer) so is some comes (Tells e before now) tt
       (tells_front e before now _ not_read
-      (front_after before mid now so.text _ so.told wrote)))
+      (front_after before mid now so.text _ so.told wrote)) waits)
   told_in_part p q input rest new before mid now r s h k away u refused buffer found
-      (Failed key fault) e so is some comes far not_read wrote =
+      (Failed key fault) e so is some comes far not_read wrote waits =
       inr (
         fault,
         far key fault refl,

@@ -1,5 +1,5 @@
 -- What a batch answers, and where it leaves the bench.
-use Rattle.std.specs.Prelude.{◌≡◌, ◌≢◌, ◌⊎◌, ◌<◌, ◌||◌, ℕ, Bool, true, false, List, [], ◌∷◌, ◌++◌, Option, Some, None, Result, Ok, Err, IfOk, IfSome}
+use Rattle.std.specs.Prelude.{◌≡◌, ◌≢◌, ◌⊎◌, ◌<◌, ◌||◌, ℕ, Bool, true, false, List, [], ◌∷◌, ◌++◌, Option, Some, None, Result, Ok, Err, IfOk, IfSome, OnSome}
 use Rattle.std.specs.Io.KnownBytes.{Appends}
 use Rattle.sqlite_trees.specs.declared.store.Store.{Ghosts}
 use Rattle.sqlite.specs.Held.{Held}
@@ -16,10 +16,11 @@ use Rattle.gm_registry.specs.Registry.{DiskKept, StoreFailed, seen}
 use Rattle.gm_registry.specs.Replies.{AreWrittenUnder}
 use Rattle.gm_bench.specs.Benches.{progress_of, registry_of, shelf_of}
 use Rattle.gm_bench.specs.Calls.{Keep, most_rows}
-use Rattle.gm_bench.specs.Phases.{TakesCommands, TakesNext}
+use Rattle.gm_bench.specs.Phases.{TakesCommands, TakesNext, phase_of}
 use Rattle.gm_bench.specs.declared.bench.Bench.{Bench}
 use Rattle.gm_bench.specs.declared.fault.BenchFault.{BenchFault}
 use Rattle.gm_bench.specs.declared.fault.BenchFault.TheVariants.{Disk, Store, Unreadable}
+use Rattle.gm_bench.specs.declared.phase.Phase.TheVariants as phase
 use Rattle.gm_bench.specs.declared.phase.Progress.{Progress}
 use Rattle.gm_bench.specs.declared.phase.Progress.TheVariants.{Failed}
 use Rattle.gm_bench.specs.Recovering.{IsAt, IsCarriedOut, LeavesOnly}
@@ -109,6 +110,10 @@ AreLines input lines = IfSome input (λ bytes. lines_of bytes ≡ lines)
 abbrev pub AreFirst : Option (List ℕ) → List (List ℕ) → Type 0
 AreFirst input lines =
     IfSome input (λ bytes. (more : List (List ℕ)) × (lines_of bytes ≡ lines ++ more))
+
+-- after these, lines of the input are left, if that is known
+abbrev pub LeavesLines : Option (List ℕ) → List (List ℕ) → Type 0
+LeavesLines input lines = IfSome input (λ bytes. lines_of bytes ≢ lines)
 
 -- The last command of these lines that was done led from v to w; the lines after it did nothing.
 pub record IsLastDone (u : World) (lines : List (List ℕ)) (v w : World) : Type 0 where
@@ -206,20 +211,23 @@ module _ {S H : Type 0} (g : Ghosts S) (j : ShelfGhosts H) where
     pub store : fault ≡ Store → HasRoom most_rows (seen g registry) → StoreFailed g registry s
     pub readable : fault ≡ Unreadable → AreWrittenUnder key answered.at.tables → ⊥
 
-  -- what is owed of lines that are answered, if they ended, if the bench failed, and if the answers
-  -- weren't all told
+  -- What is owed of lines that are answered, if they ended, if the bench failed, and if the answers
+  -- weren't all told. Of a known input a command is still to be settled only if lines are left.
   abbrev pub HandsIn : Progress → Option (List ℕ) → Option (List ℕ) → Option (List ℕ) → Held S → H
       → Image → World → Result BatchEnd FrontFault → Type 0
   HandsIn p input before now s k away u (Ok (Ended refused)) =
       Ends input before now (AreStanding p s k away u) refused
+      × OnSome input (phase_of p ≢ phase.Applied)
   HandsIn p input before now s k away u (Ok (Stopped fault)) =
       (p ≡ Failed) × Stops input (Appends before now) s k away u fault
   HandsIn p input before now s k away u (Err fault) =
-      Breaks input (Tells fault before now) (AreStanding p s k away u)
+      ((it : Breaks input (Tells fault before now) (AreStanding p s k away u))
+      × (phase_of p ≡ phase.Applied → LeavesLines input it.lines))
       ⊎ ((f : BenchFault) × (p ≡ Failed) × Stops input (AppendsFront before now) s k away u f)
 
   -- What a batch owes, after which nothing is still to be settled. If the answers weren't all
-  -- told, the bench may also have failed as it settled the last command.
+  -- told, the bench may also have failed as it settled the last command; of a known input only if
+  -- lines are left.
   abbrev pub Batches : Option (List ℕ) → Option (List ℕ) → Option (List ℕ) → Held S → H → Image
       → World → Result BatchEnd FrontFault → Type 0
   Batches input before now s k away u (Ok (Ended refused)) =
@@ -229,7 +237,8 @@ module _ {S H : Type 0} (g : Ghosts S) (j : ShelfGhosts H) where
   Batches input before now s k away u (Err fault) =
       Breaks input (Tells fault before now) (AreAnswered s k away u)
       ⊎ (((f : BenchFault) × Stops input (AppendsFront before now) s k away u f)
-      ⊎ Breaks input (Tells fault before now) (AreUnsettled s k away u))
+      ⊎ ((it : Breaks input (Tells fault before now) (AreUnsettled s k away u))
+      × LeavesLines input it.lines))
 
 -- What a batch owes of a bench, if its input was known so, and its output before and now.
 pub record AnswersBatch {S H : Type 0} (s : Ghosts S) (h : ShelfGhosts H)

@@ -10,7 +10,7 @@ use Rattle.gm_bench.specs.Schedule.{Entry}
 use Rattle.gm_front.specs.declared.answer_lines.BatchEnd.{BatchEnd}
 use Rattle.gm_front.specs.declared.answer_lines.BatchEnd.TheVariants as end
 use Rattle.gm_front.specs.declared.answer_lines.FrontFault.{FrontFault}
-use Rattle.gm_front.specs.Batch.{AreLines, AreFirst}
+use Rattle.gm_front.specs.Batch.{AreLines, AreFirst, LeavesLines}
 use Rattle.gm_front.specs.HandedIn.{AreCarriedBehind, IsAtRestBehind, IsStoppedNext, IsStoppedSettling, with_calls}
 use Rattle.gm_lines.specs.Asked.{Asked, Nothing, Wrong, Call, asked}
 
@@ -50,4 +50,4 @@ module _ {S H : Type 0} (g : Ghosts S) (j : ShelfGhosts H) (all : Sizes) where
       ((lines : List (List ℕ)) × AreFirst input lines
       × IsAtRestBehind g j all (calls_of lines) s k away acc ack)
       ⊎ (StopsAtLine input s k away acc ack ⊎ ((lines : List (List ℕ)) × AreFirst input lines
-      × IsStoppedSettling g j all (calls_of lines) s k away acc ack))
+      × LeavesLines input lines × IsStoppedSettling g j all (calls_of lines) s k away acc ack))

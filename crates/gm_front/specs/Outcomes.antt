@@ -35,6 +35,13 @@ text_of (outcome.Wrong key) = refusal_line key.now 1
 text_of (outcome.Answered key answer) = answer_line key.now (answer_of answer)
 text_of (outcome.Failed key fault) = fault_line key.now fault
 
+-- what was asked, by the kind of what came of it
+abbrev pub IsAskedBy : Asked → Outcome → Type 0
+IsAskedBy asks outcome.Nothing = asks ≡ Nothing
+IsAskedBy asks (outcome.Wrong key) = asks ≡ Wrong key.now
+IsAskedBy asks (outcome.Answered key answer) = (command : Command) × (asks ≡ Call key.now command)
+IsAskedBy asks (outcome.Failed key fault) = (command : Command) × (asks ≡ Call key.now command)
+
 -- it is a refusal
 abbrev pub is_refused : Outcome → Bool
 is_refused outcome.Nothing = false

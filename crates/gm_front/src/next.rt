@@ -9,7 +9,7 @@ ghost use Rattle.gm_bench.specs.Calls.{ClosesOnFault, Keep};
 ghost use Rattle.gm_bench.specs.Phases.{TakesNext};
 ghost use Rattle.gm_bench.specs.Standing.{Stands};
 ghost use Rattle.gm_front.specs.Closing.{KeepsClosed, outcome_fault};
-ghost use Rattle.gm_front.specs.Outcomes.{FailsNext, IsAnsweredNext, IsFarAfter, IsFarOn, NextComesTo};
+ghost use Rattle.gm_front.specs.Outcomes.{FailsNext, IsAnsweredNext, IsAskedBy, IsFarAfter, IsFarOn, NextComesTo};
 ghost use Rattle.gm_lines.specs.Asked.{asked_of};
 
 use crate::outcome::Outcome;
@@ -72,6 +72,7 @@ pub(crate) fn ask_next<'a, S: Alter, H: Shelf>(
         → NextComesTo S.Store H.Shelf (progress_of bench.new)
         (registry_of bench.old) (registry_of bench.new)
         (shelf_of bench.old) (shelf_of bench.new) away v u (asked_of request.now) result }
+    ensures asks { IsAskedBy (asked_of request.now) result }
     ensures far { IsFarAfter (progress_of bench.old) (progress_of bench.new) follows result }
     ensures closes { KeepsClosed bench.old bench.new (outcome_fault result) }
     ensures keep { Keep S.Store H.Shelf (registry_of bench.old) (registry_of bench.new)

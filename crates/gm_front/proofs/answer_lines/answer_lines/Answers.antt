@@ -1,6 +1,6 @@
-use Rattle.gm_front.proofs.Common.{rules, arith, ◌≡◌, ◌≢◌, ◌∙◌, ap, refl, inl, Appends, End, AppendsFront, asked_at, asked_of}
-use Rattle.std.proofs.lemmas.Option.{IfSome_then}
+use Rattle.gm_front.proofs.Common.{rules, arith, ◌≡◌, ◌≢◌, ◌∙◌, ap, refl, inl, Appends, End, AppendsFront}
 use Rattle.gm_front.proofs.Heard.{heard_in_part, heard_none, heard_to_end, heard_to_stop, heard_whole, one_heard}
+use Rattle.gm_front.proofs.ReadAhead.{followed_after, followed_first, waits_for_lines}
 use Rattle.gm_front.proofs.Turns.{begun, broken, comes_so, comes_to, far_failed, far_on, finished, front_all, goes_on, kept_before, one_more, stopped, takes_after, told_in_part, told_wholly}
 use Rattle.gm_front.proofs.answer_lines.answer_lines.Goals as goal
 
@@ -18,31 +18,33 @@ loop-init g c = record {
   goes_on = λ other. other;
   redone = refl;
   closed = λ _. refl;
-  next = tt;
+  followed = followed_first _ _ c.requires.phase;
 }
 
 pub returns-in_default-clause-does : goal.returns-in_default-clause-does
 returns-in_default-clause-does g c = λ honest kept away u at.
     let so = c.loop.invariant.going.does honest kept away u at in
-    inl (broken g.S.Store g.H.Shelf _ _ _ _ _ _ _ away u _ _ so so.told)
+    inl (broken g.S.Store g.H.Shelf _ _ _ _ _ _ _ away u _ _ so so.told
+    (waits_for_lines _ _ _ _ c.loop.invariant.followed))
 
 pub returns-then-eq-clause-does : goal.returns-then-eq-clause-does
 returns-then-eq-clause-does g c = λ honest kept away u at.
     let is_end : c.in-Ok.taken.found ≡ End = search rules in
     let so = c.loop.invariant.going.does honest kept away u at in
     finished g.S.Store g.H.Shelf _ _ _ _ _ _ _ _ away u _ c.take_line.new.line
-    so (rw is_end at c.in-Ok.ensures.line)
+    so (rw is_end at c.in-Ok.ensures.line) (waits_for_lines _ _ _ _ c.loop.invariant.followed)
 
 pub returns-in_default-request_at-clause-does : goal.returns-in_default-request_at-clause-does
 returns-in_default-request_at-clause-does g c = λ honest kept away u at.
     let so = c.loop.invariant.going.does honest kept away u at in
     inl (broken g.S.Store g.H.Shelf _ _ _ _ _ _ _ away u _ (AppendsFront _ _)
-    so (front_all _ _ _ so.told))
+    so (front_all _ _ _ so.told) (waits_for_lines _ _ _ _ c.loop.invariant.followed))
 
 pub returns-clause-does : goal.returns-clause-does
 returns-clause-does g c = λ honest kept away u at.
     let so = c.loop.invariant.going.does honest kept away u at in
-    inl (broken g.S.Store g.H.Shelf _ _ _ _ _ _ _ away u _ _ so so.told)
+    inl (broken g.S.Store g.H.Shelf _ _ _ _ _ _ _ away u _ _ so so.told
+    (waits_for_lines _ _ _ _ c.loop.invariant.followed))
 
 pub returns-in-Err-clause-does : goal.returns-in-Err-clause-does
 returns-in-Err-clause-does g c = λ honest kept away u at.
@@ -57,6 +59,11 @@ returns-in-Err-clause-does g c = λ honest kept away u at.
     told_in_part g.S.Store g.H.Shelf _ _ _ _ _ _ _ _ _ _ _ _ away u _ c.take_line.new.line
     c.in-Ok.taken.found c.ask_next-outcome.result _ so c.in-Ok.ensures.line some comes (far_failed
     _ _ _ _ c.ask_next-outcome.ensures.far) c.in-Err.ensures.fault c.in-Err.ensures.front
+    (waits_for_lines _ _ _ _ (followed_after _ _ _ _ _ _ _ _ _ c.take_line.new.line
+    c.in-Ok.taken.found _ c.ask_next-outcome.result _ c.loop.invariant.heard.left
+    c.loop.invariant.followed c.in-Ok.ensures.line some c.in-Ok-request_at.ensures
+    c.ask_next-outcome.ensures.asks c.is_some.ensures c.ask_next-outcome.ensures.far
+    c.replace-ahead.ensures.after c.in-Ok.ensures.next))
 
 pub returns-in-Failed-clause-does : goal.returns-in-Failed-clause-does
 returns-in-Failed-clause-does g c = λ honest kept away u at.
@@ -110,8 +117,11 @@ loop-preserved g c =
       redone = asked.closes.redone ∙ c.loop.invariant.redone;
       closed = λ failed. asked.closes.closed (ap (λ b. b.progress) (c.loop.invariant.closed failed)
           ∙ failed) ∙ c.loop.invariant.closed failed;
-      next = rw c.replace-ahead.ensures.after
-          (IfSome_then c.in-Ok.taken.next c.in-Ok.ensures.next (λ it is. is.0));
+      followed = followed_after _ _ _ _ _ _ _ _ _ c.take_line.new.line
+          c.in-Ok.taken.found _ c.ask_next-outcome.result _ c.loop.invariant.heard.left
+          c.loop.invariant.followed c.in-Ok.ensures.line some c.in-Ok-request_at.ensures
+          asked.asks c.is_some.ensures asked.far
+          c.replace-ahead.ensures.after c.in-Ok.ensures.next;
     }
 
 pub returns-in-Err-clause-far : goal.returns-in-Err-clause-far

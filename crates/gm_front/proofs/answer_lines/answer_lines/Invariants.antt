@@ -1,5 +1,6 @@
-use Rattle.gm_front.proofs.Common.{◌≡◌, ◌≢◌, IfSome, Failed, TakesNext, IsAhead}
+use Rattle.gm_front.proofs.Common.{◌≡◌, ◌≢◌, Failed, TakesNext}
 use Rattle.gm_front.proofs.Heard.{HeardSoFar}
+use Rattle.gm_front.proofs.ReadAhead.{IsFollowed}
 use Rattle.gm_front.proofs.Turns.{Going}
 use Rattle.gm_front.proofs.answer_lines.answer_lines.Given as goal
 
@@ -16,5 +17,6 @@ invariant-loop g l = record {
   goes_on : l.fn.bench.progress ≢ Failed → l.bench.progress ≢ Failed;
   redone : l.bench.redone ≡ l.fn.bench.redone;
   closed : l.fn.bench.progress ≡ Failed → l.bench ≡ l.fn.bench;
-  next : IfSome l.next IsAhead;
+  followed : IsFollowed (g.R.Read.remaining l.fn.reader) (g.R.Read.remaining l.reader)
+      l.bench.progress l.next;
 }

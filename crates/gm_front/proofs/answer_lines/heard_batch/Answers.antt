@@ -1,6 +1,6 @@
 use Rattle.gm_front.proofs.Common.{rules, arith, ◌∙◌, Err, ap, refl, inl, DiskKept, Memory, AppendsFront}
 use Rattle.gm_front.proofs.Heard.{heard_anyhow, heard_none, heard_whole, only_ended}
-use Rattle.gm_front.proofs.Settled.{ended_progress, ends_rest, same_fault}
+use Rattle.gm_front.proofs.Settled.{ended_progress, ends_rest, rests, same_fault}
 use Rattle.gm_front.proofs.Turns.{begun, broken, front_all}
 use Rattle.gm_front.proofs.answer_lines.heard_batch.Goals as goal
 
@@ -13,7 +13,8 @@ returns-in_default-clause-answers g c = record {
       ends_rest g.S.Store g.H.Shelf _ _ _ _ _ away u
       c.args.bench.now.progress c.requires (Err Memory)
       (inl (broken g.S.Store g.H.Shelf _ _ _ _ _ _ _ away u _
-      (AppendsFront _ _) so (front_all _ _ _ so.told)));
+      (AppendsFront _ _) so (front_all _ _ _ so.told)
+      (λ lines left applied. absurd (rests _ c.requires applied))));
   progress = tt;
   phase = c.requires;
   closes = record {
