@@ -1,5 +1,5 @@
 -- The faults of calls in turn are those of the call that failed.
-use Rattle.gm_sync.proofs.Common.{◌≡◌, ◌∙◌, Bool, true, false, refl, sym, ap, arith, [], Result, Err, IfErr, Held, state, Command, DiskKept, registry_of, shelf_of, ClosesOnFault, Keep, LooksOn, TellsOfRecords, TellsStore, Bench, BenchFault, Absent, Closed, Disk, Memory, Store, done_at_rest, FailsAsCalls, Fills, PassesByAudit, Scope, Synced}
+use Rattle.gm_sync.proofs.Common.{◌≡◌, ◌∙◌, Bool, true, false, refl, sym, ap, arith, [], Result, Err, IfErr, Held, state, Command, DiskKept, registry_of, shelf_of, ClosesOnFault, Keep, LooksOn, TellsOfRecords, TellsStore, Bench, BenchFault, Absent, Closed, Disk, Memory, Store, done_at_rest, FailsAsCalls, Fills, PassedOver, PassesByAudit, Scope}
 use Rattle.sqlite_trees.specs.declared.store.Store.{Ghosts as StoreGhosts}
 use Rattle.gm_shelf.specs.declared.shelf.Shelf.{Ghosts as ShelfGhosts}
 use Rattle.gm_registry.proofs.ReadsInTurn.{sees_registry}
@@ -57,15 +57,16 @@ module _ {S H : Type 0} (g : StoreGhosts S) (h : ShelfGhosts H) where
         then.store (first.keep.shelf.honest honest) kept away filled.world filled.at e;
   }
 
-  -- the fault of a result that failed
-  pub told : (a b : Bench S H) {U : Type 0} (r : Result U BenchFault) (fault : BenchFault)
-      → r ≡ Err fault → FailsAsCalls g h a b fault → IfErr r (FailsAsCalls g h a b)
-  told a b r fault is holds = rw is holds
+-- the fault of a result that failed
+pub told : {U : Type 0} (P : BenchFault → Type 0) (r : Result U BenchFault) (fault : BenchFault)
+    → r ≡ Err fault → P fault → IfErr r P
+told P r fault is holds = rw is holds
 
-  -- what is owed with an audit and without one
-  pub by_audit : (a b : Bench S H) (scope : Scope) (r : Result Synced BenchFault) (audits : Bool)
-      → (audits ≡ true → PassesByAudit g h a b scope true r)
-      → (audits ≡ false → PassesByAudit g h a b scope false r)
-      → PassesByAudit g h a b scope audits r
-  by_audit a b scope r true asked unasked = asked refl
-  by_audit a b scope r false asked unasked = unasked refl
+-- what is owed with an audit and without one
+pub by_audit : {S H : Type 0} (g : StoreGhosts S) (h : ShelfGhosts H) (a b : Bench S H)
+    (scope : Scope) (passed : PassedOver) (audits : Bool)
+    → (audits ≡ true → PassesByAudit g h a b scope true passed)
+    → (audits ≡ false → PassesByAudit g h a b scope false passed)
+    → PassesByAudit g h a b scope audits passed
+by_audit g h a b scope passed true asked unasked = asked refl
+by_audit g h a b scope passed false asked unasked = unasked refl

@@ -1,5 +1,5 @@
 -- Calls that fill, one after the other.
-use Rattle.gm_sync.proofs.Common.{◌≡◌, ◌∙◌, ◌⊎◌, inl, inr, refl, subst, arith, List, [], ◌∷◌, ◌++◌, Result, Ok, Image, Has, IsLawful, Command, Records, World, Call, Run, AreRecordsOf, DiskKept, progress_of, registry_of, shelf_of, Keep, LooksOn, LookDoes, IsAt, Answer, BenchFault, Bench, done_at_rest, Due, Fills, IsFilledFrom, IsWhole}
+use Rattle.gm_sync.proofs.Common.{◌≡◌, ◌∙◌, ◌⊎◌, inl, inr, refl, sym, ap, subst, subst₂, append_assoc, arith, List, [], ◌∷◌, ◌++◌, Result, Ok, Image, Has, IsLawful, Command, Records, World, Call, Run, AreRecordsOf, DiskKept, progress_of, registry_of, shelf_of, Keep, LooksOn, LookDoes, IsAt, BenchFault, Bench, done_at_rest, CallRefusal, ℕ, ◌+◌, ◌≤◌, length, length-append, Due, Fills, FillsBy, FillsSo, IsRefusedIn, IsFilledFrom, IsLast, IsWhole, Refuses}
 use Rattle.sqlite_trees.specs.declared.store.Store.{Ghosts as StoreGhosts}
 use Rattle.gm_shelf.specs.declared.shelf.Shelf.{Ghosts as ShelfGhosts}
 use Rattle.gm_shelf.proofs.Keeping.{keeps_then}
@@ -28,6 +28,45 @@ has_either {X} (y ∷ xs) ys x (inr h) = placed (has_either xs ys x h) where
   placed : Has xs x ⊎ Has ys x → Has (y ∷ xs) x ⊎ Has ys x
   placed (inl a) = inl (inr a)
   placed (inr b) = inr b
+
+-- the last call that was done, if others follow
+last_more : (v u : World) (calls more : List Call) (before world : World)
+    → IsLast v u calls before world → IsLast v u (calls ++ more) before world
+last_more v u calls more before world (inl same) = inl same
+last_more v u calls more before world (inr (inl waits)) = inr (inl waits)
+last_more v u calls more before world (inr (inr done)) = inr (inr (record {
+  older = done.older;
+  call = done.call;
+  newer = done.newer ++ more;
+  answers = done.answers;
+  reply = done.reply;
+  all = ap (λ (cs : List Call). cs ++ more) done.all
+      ∙ append_assoc done.older (done.call ∷ done.newer) more;
+  run = done.run;
+  step = done.step;
+}))
+
+-- the last of calls in turn
+pub last_then : (v u : World) (calls : List Call) (answers : List run.Answer) (before world : World)
+    (more : List Call) (then end : World) → Run u calls world answers
+    → IsLast v u calls before world → IsLast before world more then end
+    → IsLast v u (calls ++ more) then end
+last_then v u calls answers before world more then end run first (inl same) = inl same
+last_then v u calls answers before world more then end run first (inr (inl waits)) =
+    subst₂ (IsLast v u (calls ++ more)) (sym waits.0) (sym waits.1)
+    (last_more v u calls more before world first)
+last_then v u calls answers before world more then end run first (inr (inr done)) =
+    inr (inr (record {
+      older = calls ++ done.older;
+      call = done.call;
+      newer = done.newer;
+      answers = answers ++ done.answers;
+      reply = done.reply;
+      all = ap (λ (cs : List Call). calls ++ cs) done.all
+          ∙ sym (append_assoc calls done.older (done.call ∷ done.newer));
+      run = run_then u calls world answers done.older then done.answers run done.run;
+      step = done.step;
+    }))
 
 -- what fits of all calls of two lists, or of one
 module _ (Fit : Command → Type 0) where
@@ -106,6 +145,20 @@ module _ {S H : Type 0} (g : StoreGhosts S) (h : ShelfGhosts H) (Fit : Command �
     };
   }
 
+  abbrev pub filled_then : (b c : Bench S H) (away : Image) (u : World)
+      (one : IsFilledFrom g h Fit b away u) → IsFilledFrom g h Fit c away one.world
+      → IsFilledFrom g h Fit c away u
+  filled_then b c away u one two = record {
+    calls = one.calls ++ two.calls;
+    answers = one.answers ++ two.answers;
+    world = two.world;
+    run = run_then u one.calls one.world one.answers two.calls two.world two.answers one.run
+        two.run;
+    fill = λ call has. either_fills Fit one.calls two.calls one.fill two.fill call
+        (has_either one.calls two.calls call has);
+    at = two.at;
+  }
+
   pub fills_then : (a b c : Bench S H) → Fills g h Fit a b → Fills g h Fit b c → Fills g h Fit a c
   fills_then a b c first then = record {
     stays = then.stays ∙ first.stays;
@@ -113,18 +166,62 @@ module _ {S H : Type 0} (g : StoreGhosts S) (h : ShelfGhosts H) (Fit : Command �
     does = λ honest kept away u at.
         let clean : DiskKept g (registry_of b) = omega (arith, then.keep.clean, kept) in
         let one = first.does honest clean away u at in
-        let two = then.does (first.keep.shelf.honest honest) kept away one.world one.at in
-        record {
-          calls = one.calls ++ two.calls;
-          answers = one.answers ++ two.answers;
-          world = two.world;
-          run = run_then u one.calls one.world one.answers two.calls two.world two.answers one.run
-              two.run;
-          fill = λ call has. either_fills Fit one.calls two.calls one.fill two.fill call
-              (has_either one.calls two.calls call has);
-          at = two.at;
-        };
+        filled_then b c away u one
+        (then.does (first.keep.shelf.honest honest) kept away one.world one.at);
   }
+
+  -- what holds of the calls of two in turn, and of the world that they reach
+  pub so_then : (P Q R : List Call → World → Type 0)
+      → ((xs ys : List Call) (v w : World) → P xs v → Q ys w → R (xs ++ ys) w) → (a b c : Bench S H)
+      → Keep g h (registry_of a) (registry_of b) (shelf_of a) (shelf_of b)
+      → Keep g h (registry_of b) (registry_of c) (shelf_of b) (shelf_of c)
+      → FillsSo g h Fit P a b → FillsSo g h Fit Q b c → FillsSo g h Fit R a c
+  so_then P Q R both a b c keep then_keep first then = λ honest kept away u at.
+      let clean : DiskKept g (registry_of b) = omega (arith, then_keep.clean, kept) in
+      let one = first honest clean away u at in
+      let two = then (keep.shelf.honest honest) kept away one.0.world one.0.at in (
+        filled_then b c away u one.0 two.0,
+        both one.0.calls two.0.calls one.0.world two.0.world one.1 two.1,
+      )
+
+  -- a call that was refused after others that filled
+  pub refuses_then : (Next : Command → Type 0) (a b c : Bench S H) (why : CallRefusal)
+      → Fills g h Fit a b → Keep g h (registry_of b) (registry_of c) (shelf_of b) (shelf_of c)
+      → Refuses g h Fit Next b c why → Refuses g h Fit Next a c why
+  refuses_then Next a b c why first keep refuses =
+      so_then (λ calls w. Unit {0}) (λ calls w. IsRefusedIn Next w why)
+      (λ calls w. IsRefusedIn Next w why) (λ xs ys v w some is. is) a b c first.keep keep
+      (λ honest kept away u at. (first.does honest kept away u at, tt)) refuses
+
+  -- so many calls, and then so many more
+  pub by_then : (a b c : Bench S H) (n m : ℕ)
+      → Keep g h (registry_of a) (registry_of b) (shelf_of a) (shelf_of b)
+      → Keep g h (registry_of b) (registry_of c) (shelf_of b) (shelf_of c)
+      → FillsBy g h Fit a b n → FillsBy g h Fit b c m → FillsBy g h Fit a c (n + m)
+  by_then a b c n m keep then_keep first then =
+      so_then (λ calls w. n ≤ length calls) (λ calls w. m ≤ length calls)
+      (λ calls w. n + m ≤ length calls)
+      (λ xs ys v w some more. omega (arith, length-append xs ys, some, more)) a b c keep then_keep
+      first then
+
+  -- at least none
+  pub by_none : (a b : Bench S H) → Fills g h Fit a b → FillsBy g h Fit a b 0
+  by_none a b fills = λ honest kept away u at. (fills.does honest kept away u at, omega arith)
+
+  -- so many calls after others that filled
+  pub by_behind : (a b c : Bench S H) (n : ℕ) → Fills g h Fit a b
+      → Keep g h (registry_of b) (registry_of c) (shelf_of b) (shelf_of c)
+      → FillsBy g h Fit b c n → FillsBy g h Fit a c n
+  by_behind a b c n first keep then =
+      so_then (λ calls w. Unit {0}) (λ calls w. n ≤ length calls) (λ calls w. n ≤ length calls)
+      (λ xs ys v w some many. omega (arith, length-append xs ys, many)) a b c first.keep keep
+      (λ honest kept away u at. (first.does honest kept away u at, tt)) then
+
+  -- fewer
+  pub by_fewer : (a b : Bench S H) (n m : ℕ) → n ≤ m → FillsBy g h Fit a b m → FillsBy g h Fit a b n
+  by_fewer a b n m few by = λ honest kept away u at.
+      let it = by honest kept away u at in
+      let many = it.1 in (it.0, omega (arith, few, many))
 
   -- a look runs nothing
   pub fills_look : (a b : Bench S H) → progress_of b ≡ progress_of a
@@ -166,23 +263,49 @@ module _ {S H : Type 0} (g : StoreGhosts S) (h : ShelfGhosts H) (Fit : Command �
         [] filled.world filled.world does filled.at;
   }
 
+  pub by_looked : (a b c : Bench S H) {T : Type 0} (x : T) (n : ℕ)
+      → Keep g h (registry_of a) (registry_of b) (shelf_of a) (shelf_of b)
+      → FillsBy g h Fit a b n → LooksOn g h b c (Ok x) → FillsBy g h Fit a c n
+  by_looked a b c x n keep by looks = λ honest kept away u at.
+      let mid : DiskKept g (registry_of b) = omega (arith, looks.store.clean, kept) in
+      let it = by honest mid away u at in
+      (filled_look b c away u (looks.does (keep.shelf.honest honest) kept) it.0, it.1)
+
   -- what fits one way fits another way that asks for less
+  abbrev pub filled_too : (More : Command → Type 0) → ((c : Command) → Fit c → More c)
+      → (b : Bench S H) (away : Image) (u : World)
+      → IsFilledFrom g h Fit b away u → IsFilledFrom g h More b away u
+  filled_too More then b away u filled = record {
+    calls = filled.calls;
+    answers = filled.answers;
+    world = filled.world;
+    run = filled.run;
+    fill = λ call has. then call.command (filled.fill call has);
+    at = filled.at;
+  }
+
   pub fills_too : (More : Command → Type 0) → ((c : Command) → Fit c → More c) → (a b : Bench S H)
       → Fills g h Fit a b → Fills g h More a b
   fills_too More then a b fills = record {
     stays = fills.stays;
     keep = fills.keep;
     does = λ honest kept away u at.
-        let filled = fills.does honest kept away u at in
-        record {
-          calls = filled.calls;
-          answers = filled.answers;
-          world = filled.world;
-          run = filled.run;
-          fill = λ call has. then call.command (filled.fill call has);
-          at = filled.at;
-        };
+        filled_too More then b away u (fills.does honest kept away u at);
   }
+
+  -- so does what holds of the calls and the world
+  pub so_too : (More : Command → Type 0) (P Q : List Call → World → Type 0)
+      → ((c : Command) → Fit c → More c) → ((xs : List Call) (w : World) → P xs w → Q xs w)
+      → (a b : Bench S H) → FillsSo g h Fit P a b → FillsSo g h More Q a b
+  so_too More P Q then other a b so = λ honest kept away u at.
+      let it = so honest kept away u at in
+      (filled_too More then b away u it.0, other it.0.calls it.0.world it.1)
+
+-- a call that is refused and fits one way fits another way that asks for less
+pub refused_in_too : (Next Other : Command → Type 0) → ((c : Command) → Next c → Other c)
+    → (w : World) (why : CallRefusal) → IsRefusedIn Next w why → IsRefusedIn Other w why
+refused_in_too Next Other then w why it =
+    record { call = it.call; fit = then it.call.command it.fit; calls = it.calls }
 
 -- What is whole by a call after a look is whole by both.
 module _ {S H : Type 0} (g : StoreGhosts S) (h : ShelfGhosts H) (a b c : Bench S H) (due : Due)

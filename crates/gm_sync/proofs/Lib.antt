@@ -7,3 +7,5 @@ pub mod FilledOn
 pub mod Next
 pub mod Passing
 pub mod Still
+pub mod Stops
+pub mod SyncRuns

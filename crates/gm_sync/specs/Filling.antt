@@ -1,5 +1,5 @@
 -- What filling leaves of a bench, and what it is told to have come to.
-use Rattle.std.specs.Prelude.{◌≡◌, ◌<◌, ◌⊎◌, ℕ, Bool, true, false, List, [], None, Result, IfOk, OnOk}
+use Rattle.std.specs.Prelude.{◌≡◌, ◌<◌, ◌≤◌, ◌⊎◌, ℕ, Bool, true, false, List, [], ◌∷◌, ◌++◌, None, Result, OnOk, length}
 use Rattle.sqlite_trees.specs.declared.store.Store.{Ghosts as StoreGhosts}
 use Rattle.sqlite.specs.Held.{Held}
 use Rattle.gm_metadata.specs.Images.{Image, Sizes}
@@ -7,7 +7,9 @@ use Rattle.gm_lists.specs.Ordered.{Has, Ascends}
 use Rattle.gm_shelf.specs.declared.shelf.Shelf.{Ghosts as ShelfGhosts}
 use Rattle.gm_commands.specs.declared.command.Command.{Command}
 use Rattle.gm_commands.specs.declared.command.Command.TheVariants.{Advance}
+use Rattle.gm_refusals.specs.declared.refusals.CallRefusal.{CallRefusal}
 use Rattle.gm_state.specs.declared.intents.Intent.{Intent}
+use Rattle.gm_state.specs.declared.intents.Reply.{Reply}
 use Rattle.gm_state.specs.declared.records.Mirror.{Mirror}
 use Rattle.gm_state.specs.declared.records.Component.{Component}
 use Rattle.gm_state.specs.Intents.{IsOf}
@@ -16,6 +18,7 @@ use Rattle.gm_state.specs.Rows.{Tables}
 use Rattle.gm_state.specs.World.{World}
 use Rattle.gm_rules.specs.AbstractCalls.{Call, Run}
 use Rattle.gm_rules.specs.AbstractCalls as run
+use Rattle.gm_rules.specs.Step.{Step}
 use Rattle.gm_rows.specs.ReadableTables.{AreRecordsOf}
 use Rattle.gm_registry.specs.Fitting.{HasRoom}
 use Rattle.gm_registry.specs.Registry.{DiskKept, HasTables, Reads, StoreFailed, seen}
@@ -24,7 +27,9 @@ use Rattle.gm_bench.specs.Benches.{progress_of, registry_of, shelf_of}
 use Rattle.gm_bench.specs.Calls.{Keep, most_rows}
 use Rattle.gm_bench.specs.Owed.{LookDoes}
 use Rattle.gm_bench.specs.Recovering.{IsAt, IsCarriedOut}
+use Rattle.gm_bench.specs.Running.{answer_of}
 use Rattle.gm_bench.specs.Standing.{Stands}
+use Rattle.gm_bench.specs.declared.answer.Answer.{Answer}
 use Rattle.gm_bench.specs.declared.bench.Bench.{Bench}
 use Rattle.gm_bench.specs.declared.fault.BenchFault.{BenchFault}
 use Rattle.gm_bench.specs.declared.fault.BenchFault.TheVariants.{Absent, Closed, Disk, Memory, Store}
@@ -33,7 +38,7 @@ use Rattle.gm_sync.specs.declared.due.Due.{Due}
 use Rattle.gm_sync.specs.declared.passed_over.PassedOver.{PassedOver}
 use Rattle.gm_sync.specs.declared.scope.Scope.{Scope}
 use Rattle.gm_sync.specs.declared.synced.Synced.{Synced}
-use Rattle.gm_sync.specs.Ends.{IfWhole}
+use Rattle.gm_sync.specs.Ends.{EndsAs}
 use Rattle.gm_sync.specs.Scopes.{PassesNone, but, is_beside, is_due, is_passed_over, next_of}
 
 -- the command fills this component
@@ -44,6 +49,34 @@ IsAdvanceOf k c = c ≡ Advance k.mirror k.provider
 abbrev pub IsAdvanceIn : Due → Command → Type 0
 IsAdvanceIn due c = (mirror : List ℕ) × (provider : List ℕ) × (c ≡ Advance mirror provider)
     × (is_due due mirror provider ≡ true)
+
+-- the command fills the component on this provider, which is due
+abbrev pub IsAdvanceOn : Due → List ℕ → Command → Type 0
+IsAdvanceOn due provider c = (mirror : List ℕ) × (c ≡ Advance mirror provider)
+    × (is_due due mirror provider ≡ true)
+
+-- the last of these calls that was done led from before to world
+pub record IsLastDone (u : World) (calls : List Call) (before world : World) : Type 0 where
+  pub older : List Call
+  pub call : Call
+  pub newer : List Call
+  pub answers : List run.Answer
+  pub reply : Reply
+  pub all : calls ≡ older ++ call ∷ newer
+  pub run : Run u older before answers
+  pub step : Step before call.key call.command world reply
+
+-- What waits to be settled after these calls leads from before to world: nothing, what waited
+-- before them and led from v to u, or the last of them that was done.
+abbrev pub IsLast : World → World → List Call → World → World → Type 0
+IsLast v u calls before world =
+    (before ≡ world) ⊎ (((before ≡ v) × (world ≡ u)) ⊎ IsLastDone u calls before world)
+
+-- In this world a call that fits is refused so.
+pub record IsRefusedIn (Fit : Command → Type 0) (w : World) (why : CallRefusal) : Type 0 where
+  pub call : Call
+  pub fit : Fit call.command
+  pub calls : run.Calls w call w (run.Refused why)
 
 module _ {S H : Type 0} (g : StoreGhosts S) (h : ShelfGhosts H) (Fit : Command → Type 0) where
   -- From rest in u the bench came to rest again, by commands that fit and no others.
@@ -64,14 +97,16 @@ module _ {S H : Type 0} (g : StoreGhosts S) (h : ShelfGhosts H) (Fit : Command �
         → IsAt g h (registry_of old) (shelf_of old) away [] [] u u
         → IsFilledFrom new away u
 
-  -- If the bench stood for u it stands for another world, by commands that fit and no others.
-  pub record IsFilledOn (b : Bench S H) (away : Image) (u : World) : Type 0 where
+  -- If the bench stood for u, and v was before, it stands for another world, by commands that fit
+  -- and no others.
+  pub record IsFilledOn (b : Bench S H) (away : Image) (v u : World) : Type 0 where
     pub calls : List Call
     pub answers : List run.Answer
     pub world : World
     pub before : World
     pub run : Run u calls world answers
     pub fill : (call : Call) → Has calls call → Fit call.command
+    pub last : IsLast v u calls before world
     pub stands : Stands g h (progress_of b) (registry_of b) (shelf_of b) away before world
 
   -- A call that fills, of which the last command may still be to be settled.
@@ -82,7 +117,55 @@ module _ {S H : Type 0} (g : StoreGhosts S) (h : ShelfGhosts H) (Fit : Command �
     pub does : h.honest (shelf_of old) → DiskKept g (registry_of new) → (away : Image)
         (v u : World)
         → Stands g h (progress_of old) (registry_of old) (shelf_of old) away v u
-        → IsFilledOn new away u
+        → IsFilledOn new away v u
+
+  -- A call that fits was answered so by a bench that stood for u, and v was before: the bench
+  -- stands for the world that the answer reaches.
+  pub record IsAnsweredOn (b : Bench S H) (away : Image) (v u : World) (answer : Answer)
+      : Type 0 where
+    pub call : Call
+    pub fit : Fit call.command
+    pub world : World
+    pub before : World
+    pub calls : run.Calls u call world (answer_of answer)
+    pub last : IsLast v u (call ∷ []) before world
+    pub stands : Stands g h (progress_of b) (registry_of b) (shelf_of b) away before world
+
+  -- what is answered is what the abstract bench answers to a call that fits
+  abbrev pub AnswersOn : Bench S H → Bench S H → Answer → Type 0
+  AnswersOn old new answer =
+      h.honest (shelf_of old) → DiskKept g (registry_of new) → (away : Image) (v u : World)
+      → Stands g h (progress_of old) (registry_of old) (shelf_of old) away v u
+      → IsAnsweredOn new away v u answer
+
+  -- the bench was filled, the last command perhaps still to be settled, and this holds of the calls
+  -- and the world that they reach
+  abbrev pub FillsSoOn : (List Call → World → Type 0) → Bench S H → Bench S H → Type 0
+  FillsSoOn So old new =
+      h.honest (shelf_of old) → DiskKept g (registry_of new) → (away : Image) (v u : World)
+      → Stands g h (progress_of old) (registry_of old) (shelf_of old) away v u
+      → (filled : IsFilledOn new away v u) × So filled.calls filled.world
+
+  -- the same from rest to rest
+  abbrev pub FillsSo : (List Call → World → Type 0) → Bench S H → Bench S H → Type 0
+  FillsSo So old new =
+      h.honest (shelf_of old) → DiskKept g (registry_of new) → (away : Image) (u : World)
+      → IsAt g h (registry_of old) (shelf_of old) away [] [] u u
+      → (filled : IsFilledFrom new away u) × So filled.calls filled.world
+
+  -- it was filled by at least so many calls
+  abbrev pub FillsByOn : Bench S H → Bench S H → ℕ → Type 0
+  FillsByOn old new count = FillsSoOn (λ calls w. count ≤ length calls) old new
+
+  abbrev pub FillsBy : Bench S H → Bench S H → ℕ → Type 0
+  FillsBy old new count = FillsSo (λ calls w. count ≤ length calls) old new
+
+  -- it was filled until a call was refused so that fits, or that fits this
+  abbrev pub RefusesOn : Bench S H → Bench S H → CallRefusal → Type 0
+  RefusesOn old new why = FillsSoOn (λ calls w. IsRefusedIn Fit w why) old new
+
+  abbrev pub Refuses : (Command → Type 0) → Bench S H → Bench S H → CallRefusal → Type 0
+  Refuses Next old new why = FillsSo (λ calls w. IsRefusedIn Next w why) old new
 
 module _ {S H : Type 0} (g : StoreGhosts S) (h : ShelfGhosts H) where
   -- The store failed at the last call, if it could number the rows of a command when that was made.
@@ -174,13 +257,22 @@ pub record KeepsMedia {S H T : Type 0} (g : StoreGhosts S) (h : ShelfGhosts H) (
       (shelf_of old) (shelf_of new))
   pub stays : OnOk result (progress_of new ≡ progress_of old)
 
+-- a component is refused: what is due was filled until an advance of it was refused so
+abbrev pub RefusesOneOf : {S H : Type 0} → StoreGhosts S → ShelfGhosts H → Due → Bench S H
+    → Bench S H → List ℕ → CallRefusal → Type 0
+RefusesOneOf g h due old new provider why =
+    Refuses g h (IsAdvanceIn due) (IsAdvanceOn due provider) old new why
+
 -- A sync fills what is meant, but for what it passes over, and nothing else: if nothing of that is
--- to be filled, it writes nothing, whatever the images hold, and if it ends whole, none is left.
+-- to be filled, it writes nothing, whatever the images hold. If it ends whole, none is left, and if
+-- it tells a refusal, that is what the bench answered.
 pub record Syncs {S H : Type 0} (g : StoreGhosts S) (h : ShelfGhosts H) (old new : Bench S H)
     (scope : Scope) (synced : Synced) : Type 0 where
   pub fills : Fills g h (IsAdvanceIn (but scope synced.passed_over)) old new
   pub still : IsStill g h old new (but scope synced.passed_over)
-  pub whole : IfWhole (IsWhole g h old new (but scope synced.passed_over)) synced.ending
+  pub ends : EndsAs (IsWhole g h old new (but scope synced.passed_over))
+      (RefusesOneOf g h (but scope synced.passed_over) old new)
+      (FillsBy g h (IsAdvanceIn (but scope synced.passed_over)) old new) synced.ending
 
 -- each component of the mirrors that are meant, and aren't passed over, is shown as it is
 -- registered
@@ -222,11 +314,9 @@ IsPassedOverAt g h bench scope passed = (t : Tables) (s : Records)
     → HasTables g (registry_of bench) t → AreRecordsOf t s
     → IsPassedOver scope s (h.size (shelf_of bench)) (h.view (shelf_of bench)).seen passed
 
--- with an audit a sync passes over just the mirrors of which an image is amiss, without one over
--- none
+-- with an audit just the mirrors are passed over of which an image is amiss, without one none
 abbrev pub PassesByAudit : {S H : Type 0} → StoreGhosts S → ShelfGhosts H → Bench S H → Bench S H
-    → Scope → Bool → Result Synced BenchFault → Type 0
-PassesByAudit g h old new scope true result = h.honest (shelf_of old) → DiskKept g (registry_of new)
-    → IfOk result (λ synced. IsPassedOverAt g h old scope synced.passed_over)
-PassesByAudit g h old new scope false result =
-    IfOk result (λ synced. PassesNone synced.passed_over)
+    → Scope → Bool → PassedOver → Type 0
+PassesByAudit g h old new scope true passed =
+    h.honest (shelf_of old) → DiskKept g (registry_of new) → IsPassedOverAt g h old scope passed
+PassesByAudit g h old new scope false passed = PassesNone passed

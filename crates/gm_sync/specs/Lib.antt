@@ -1,3 +1,5 @@
 pub mod Ends
+pub mod Faults
 pub mod Filling
 pub mod Scopes
+pub mod SyncRuns

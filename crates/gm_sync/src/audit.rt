@@ -4,7 +4,8 @@ ghost use Rattle.std.specs.Prelude.{◌≡◌, true, false, filter, IfErr, IfOk}
 ghost use Rattle.gm_registry.specs.Registry.{DiskKept};
 ghost use Rattle.gm_bench.specs.Benches.{progress_of, registry_of, shelf_of};
 ghost use Rattle.gm_bench.specs.Phases.{TakesCommands};
-ghost use Rattle.gm_sync.specs.Filling.{FailsAsCalls, IsPassedOverAt, KeepsMedia};
+ghost use Rattle.gm_sync.specs.Faults.{FailsFilling, IsNone};
+ghost use Rattle.gm_sync.specs.Filling.{IsPassedOverAt, KeepsMedia};
 ghost use Rattle.gm_sync.specs.Scopes.{PassesNone, has_image, is_component_of, is_named_beside, mirrors_of};
 
 use crate::passed_over::PassedOver;
@@ -106,7 +107,7 @@ pub(crate) fn amiss<S: Alter, H: Shelf>(
         → DiskKept S.Store (registry_of bench.new)
         → IfOk result (IsPassedOverAt S.Store H.Shelf bench.old scope.now) }
     ensures unasked { audits ≡ false → IfOk result PassesNone }
-    ensures faults { IfErr result (FailsAsCalls S.Store H.Shelf bench.old bench.new) }
+    ensures faults { IfErr result (FailsFilling S.Store H.Shelf IsNone bench.old bench.new) }
 {
     if !audits {
         return Ok(PassedOver::none(alloc));

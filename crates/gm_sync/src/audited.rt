@@ -4,7 +4,8 @@ ghost use Rattle.std.specs.Prelude.{IfErr, IfOk};
 ghost use Rattle.gm_bench.specs.Benches.{progress_of, registry_of, shelf_of};
 ghost use Rattle.gm_bench.specs.Calls.{Keep};
 ghost use Rattle.gm_bench.specs.Phases.{TakesCommands};
-ghost use Rattle.gm_sync.specs.Filling.{FailsAsCalls, PassesByAudit, Syncs};
+ghost use Rattle.gm_sync.specs.Faults.{FailsToSync};
+ghost use Rattle.gm_sync.specs.Filling.{PassesByAudit, Syncs};
 
 use crate::audit::amiss;
 use crate::due::Due;
@@ -32,8 +33,12 @@ pub fn sync<S: Alter, H: Shelf, P: Progress>(
         (shelf_of bench.old) (shelf_of bench.new) }
     ensures syncs { IfOk result (Syncs S.Store H.Shelf bench.old bench.new scope.now) }
     // What it passes over are just the mirrors of which an image isn't as it is registered.
-    ensures audited { PassesByAudit S.Store H.Shelf bench.old bench.new scope.now audits result }
-    ensures faults { IfErr result (FailsAsCalls S.Store H.Shelf bench.old bench.new) }
+    ensures audited { IfOk result (λ synced. PassesByAudit S.Store H.Shelf bench.old bench.new
+        scope.now audits synced.passed_over) }
+    // The commands that it handed in before a fault were advances of what is due, and what a stop
+    // then leaves leads on.
+    ensures faults { IfErr result
+        (FailsToSync S.Store H.Shelf bench.old bench.new scope.now audits) }
 {
     let passed_over = amiss(alloc, bench, scope, audits)?;
     let due = Due {

@@ -1,11 +1,12 @@
 //! Fills what is SYNCHRONIZING.
 
-ghost use Rattle.std.specs.Prelude.{IfErr, IfOk, OnOk};
+ghost use Rattle.std.specs.Prelude.{◌≡◌, IfErr, IfOk, OnOk};
 ghost use Rattle.gm_bench.specs.Benches.{progress_of, registry_of, shelf_of};
 ghost use Rattle.gm_bench.specs.Calls.{Keep};
 ghost use Rattle.gm_bench.specs.Phases.{TakesCommands, TakesNext};
-ghost use Rattle.gm_sync.specs.Filling.{FailsAsCalls, FailsOn, Fills, FillsOn, IsAdvanceIn, IsAdvanceOf, IsClosedBut, IsStill, IsWhole};
-ghost use Rattle.gm_sync.specs.Ends.{IfWhole};
+ghost use Rattle.gm_sync.specs.Ends.{ComponentEnds, EndsAs, FillsEach, unfilled_at};
+ghost use Rattle.gm_sync.specs.Faults.{FailsFilling, FailsFillingOn};
+ghost use Rattle.gm_sync.specs.Filling.{AnswersOn, Fills, FillsBy, FillsByOn, FillsOn, IsAdvanceIn, IsAdvanceOf, IsStill, IsWhole, Refuses, RefusesOn, RefusesOneOf};
 
 use crate::due::Due;
 use crate::synced::Ending;
@@ -41,8 +42,10 @@ fn advance<S: Alter, H: Shelf>(
         (shelf_of bench.old) (shelf_of bench.new) }
     ensures fills { OnOk result
         (FillsOn S.Store H.Shelf (IsAdvanceOf component.now) bench.old bench.new) }
-    ensures faults { IfErr result (FailsOn S.Store H.Shelf bench.old bench.new) }
-    ensures closed { IfErr result (IsClosedBut bench.new) }
+    ensures answers { IfOk result
+        (AnswersOn S.Store H.Shelf (IsAdvanceOf component.now) bench.old bench.new) }
+    ensures faults { IfErr result
+        (FailsFillingOn S.Store H.Shelf (IsAdvanceOf component.now) bench.old bench.new) }
 {
     let command = Command::Advance {
         name: component.mirror,
@@ -57,6 +60,17 @@ fn advance<S: Alter, H: Shelf>(
     }
 }
 
+// How the filling of a component ended.
+#[derive(Drop)]
+enum ComponentEnd {
+    // No sector is left.
+    Filled,
+    // An advance is refused.
+    Refused(CallRefusal),
+    // So often an advance was asked for, and the component still isn't filled.
+    Endless,
+}
+
 // Fills one component, or finds why that is refused. The number is that of the last key; keys that
 // were taken before are gone round. The last stretch is still to be settled.
 fn fill_stretches<S: Alter, H: Shelf, P: Progress>(
@@ -65,15 +79,18 @@ fn fill_stretches<S: Alter, H: Shelf, P: Progress>(
     component: &Component,
     number: &mut u64,
     progress: &mut P,
-) -> Result<Option<CallRefusal>, BenchFault>
+) -> Result<ComponentEnd, BenchFault>
     requires { TakesNext (progress_of bench.old) }
     ensures phase { TakesNext (progress_of bench.new) }
     ensures keep { Keep S.Store H.Shelf (registry_of bench.old) (registry_of bench.new)
         (shelf_of bench.old) (shelf_of bench.new) }
     ensures fills { OnOk result
         (FillsOn S.Store H.Shelf (IsAdvanceOf component.now) bench.old bench.new) }
-    ensures faults { IfErr result (FailsOn S.Store H.Shelf bench.old bench.new) }
-    ensures closed { IfErr result (IsClosedBut bench.new) }
+    ensures ends { IfOk result (ComponentEnds
+        (RefusesOn S.Store H.Shelf (IsAdvanceOf component.now) bench.old bench.new)
+        (FillsByOn S.Store H.Shelf (IsAdvanceOf component.now) bench.old bench.new)) }
+    ensures faults { IfErr result
+        (FailsFillingOn S.Store H.Shelf (IsAdvanceOf component.now) bench.old bench.new) }
 {
     for _ in 0..u64::MAX {
         *number = number.saturating_add(1);
@@ -81,15 +98,15 @@ fn fill_stretches<S: Alter, H: Shelf, P: Progress>(
             Answer::Done(_, Reply::Copied { held, total }) => {
                 progress.filled(component.provider, held, total);
                 if held == total {
-                    return Ok(None);
+                    return Ok(ComponentEnd::Filled);
                 }
             }
             Answer::Done(_, Reply::Plain) | Answer::Repeated(_, _) => {}
             Answer::Refused(CallRefusal::KeyTaken) => {}
-            Answer::Refused(why) => return Ok(Some(why)),
+            Answer::Refused(why) => return Ok(ComponentEnd::Refused(why)),
         }
     }
-    Ok(Some(CallRefusal::NoRoom))
+    Ok(ComponentEnd::Endless)
 }
 
 // The same, and settles the last stretch.
@@ -99,27 +116,48 @@ fn fill_one<S: Alter, H: Shelf, P: Progress>(
     component: &Component,
     number: &mut u64,
     progress: &mut P,
-) -> Result<Option<CallRefusal>, BenchFault>
+) -> Result<ComponentEnd, BenchFault>
     requires { TakesCommands (progress_of bench.old) }
     ensures phase { TakesCommands (progress_of bench.new) }
     ensures keep { Keep S.Store H.Shelf (registry_of bench.old) (registry_of bench.new)
         (shelf_of bench.old) (shelf_of bench.new) }
     ensures fills { OnOk result
         (Fills S.Store H.Shelf (IsAdvanceOf component.now) bench.old bench.new) }
-    ensures faults { IfErr result (FailsAsCalls S.Store H.Shelf bench.old bench.new) }
+    ensures ends { IfOk result (ComponentEnds (Refuses S.Store H.Shelf (IsAdvanceOf component.now)
+        (IsAdvanceOf component.now) bench.old bench.new)
+        (FillsBy S.Store H.Shelf (IsAdvanceOf component.now) bench.old bench.new)) }
+    ensures faults { IfErr result
+        (FailsFilling S.Store H.Shelf (IsAdvanceOf component.now) bench.old bench.new) }
 {
     let filled = fill_stretches(alloc, bench, component, number, progress);
     let settled = bench.settle_waiting();
-    let unfilled = filled?;
+    let end = filled?;
     settled?;
-    Ok(unfilled)
+    Ok(end)
 }
 
-// A component that isn't filled, because an advance of it is refused.
+// What isn't filled, and why: a component, of which an advance is refused, or none is told.
 #[derive(Drop)]
 struct Unfilled {
-    provider: Label,
+    provider: Option<Label>,
     why: CallRefusal,
+}
+
+// What isn't filled if the filling of the component on a provider ended so.
+fn unfilled_at(provider: Label, end: ComponentEnd) -> Option<Unfilled>
+    ensures { result ≡ unfilled_at provider end }
+{
+    match end {
+        ComponentEnd::Filled => None,
+        ComponentEnd::Refused(why) => Some(Unfilled {
+            provider: Some(provider),
+            why,
+        }),
+        ComponentEnd::Endless => Some(Unfilled {
+            provider: None,
+            why: CallRefusal::NoRoom,
+        }),
+    }
 }
 
 // Fills each component that is due and SYNCHRONIZING by a state, in the state's order, or finds
@@ -138,16 +176,20 @@ fn fill_each<S: Alter, H: Shelf, P: Progress>(
         (Fills S.Store H.Shelf (IsAdvanceIn due.now) bench.old bench.new) }
     ensures keep { Keep S.Store H.Shelf (registry_of bench.old) (registry_of bench.new)
         (shelf_of bench.old) (shelf_of bench.new) }
-    ensures faults { IfErr result (FailsAsCalls S.Store H.Shelf bench.old bench.new) }
+    ensures ends { IfOk result (FillsEach
+        (RefusesOneOf S.Store H.Shelf due.now bench.old bench.new)
+        (FillsBy S.Store H.Shelf (IsAdvanceIn due.now) bench.old bench.new) due.now state.now) }
+    ensures faults { IfErr result
+        (FailsFilling S.Store H.Shelf (IsAdvanceIn due.now) bench.old bench.new) }
 {
     let mut number = accepted;
     for component in state.components() {
         if !due.is_next(state, component) {
             continue;
         }
-        let provider = component.provider;
-        if let Some(why) = fill_one(alloc, bench, component, &mut number, progress)? {
-            return Ok(Some(Unfilled { provider, why }));
+        let end = fill_one(alloc, bench, component, &mut number, progress)?;
+        if let Some(unfilled) = unfilled_at(component.provider, end) {
+            return Ok(Some(unfilled));
         }
     }
     Ok(None)
@@ -167,10 +209,12 @@ pub(crate) fn fill<S: Alter, H: Shelf, P: Progress>(
         (shelf_of bench.old) (shelf_of bench.new) }
     ensures fills { OnOk result
         (Fills S.Store H.Shelf (IsAdvanceIn due.now) bench.old bench.new) }
-    ensures whole { IfOk result
-        (IfWhole (IsWhole S.Store H.Shelf bench.old bench.new due.now)) }
+    ensures ends { IfOk result (EndsAs (IsWhole S.Store H.Shelf bench.old bench.new due.now)
+        (RefusesOneOf S.Store H.Shelf due.now bench.old bench.new)
+        (FillsBy S.Store H.Shelf (IsAdvanceIn due.now) bench.old bench.new)) }
     ensures still { OnOk result (IsStill S.Store H.Shelf bench.old bench.new due.now) }
-    ensures faults { IfErr result (FailsAsCalls S.Store H.Shelf bench.old bench.new) }
+    ensures faults { IfErr result
+        (FailsFilling S.Store H.Shelf (IsAdvanceIn due.now) bench.old bench.new) }
 {
     for _ in 0..u64::MAX {
         let accepted = bench.accepted()?;
@@ -181,7 +225,7 @@ pub(crate) fn fill<S: Alter, H: Shelf, P: Progress>(
         }
         if let Some(unfilled) = fill_each(alloc, bench, due, &state, accepted, progress)? {
             return Ok(Ending::Refused {
-                provider: Some(unfilled.provider),
+                provider: unfilled.provider,
                 why: unfilled.why,
             });
         }

@@ -4,19 +4,22 @@
 //! `scope.rt` says which components are meant, and `audit.rt` which of their mirrors are passed
 //! over (`passed_over.rt`), because an image isn't as it is registered. The others' are due
 //! (`due.rt`), and `fill.rt` fills them; `audited.rt` does both. `specs/Scopes.antt` says what is
-//! left to be filled, and `specs/Filling.antt` what a call leaves of a bench.
+//! left to be filled, `specs/Filling.antt` what a call leaves of a bench, `specs/Faults.antt` what
+//! a fault leaves, and `laws.rt` that a sync is a part of a schedule.
 #![tactic(auto)]
 
 mod audit;
 mod audited;
 mod due;
 mod fill;
+mod laws;
 mod passed_over;
 mod scope;
 mod synced;
 
 pub use audited::sync;
 pub use fill::Progress;
+pub use laws::whole_sync_law;
 pub use passed_over::PassedOver;
 pub use scope::Scope;
 pub use synced::{Ending, Synced};

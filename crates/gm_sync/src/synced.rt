@@ -19,7 +19,8 @@ pub struct Synced {
 pub enum Ending {
     /// None is left to be filled: all mirrors, as they are then.
     Whole(State),
-    /// An advance is refused, of this component. What was filled before stays so.
+    /// An advance is refused, of this component. None is named after 2^64 - 1 commands. What was
+    /// filled before stays so.
     Refused {
         provider: Option<Label>,
         why: CallRefusal,

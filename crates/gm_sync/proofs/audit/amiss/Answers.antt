@@ -1,8 +1,9 @@
-use Rattle.gm_sync.proofs.Common.{rules, arith, ◌≡◌, refl, length, registry_of, shelf_of, DiskKept}
+use Rattle.gm_sync.proofs.Common.{rules, arith, ◌≡◌, refl, length, registry_of, shelf_of, DiskKept, FailsFilling, IsNone}
 use Rattle.gm_state.proofs.Suffixes.{none_left}
-use Rattle.gm_sync.proofs.Faults.{fails_then, look_fails, memory_fails, store_of_records, told}
+use Rattle.gm_sync.proofs.Faults.{store_of_records, told}
 use Rattle.gm_sync.proofs.Filled.{fills_looked, fills_none, look_keeps, look_none, look_then}
 use Rattle.gm_sync.proofs.Passing.{passed_none, passed_told}
+use Rattle.gm_sync.proofs.Stops.{fails_filling_then, look_fails_filling, memory_fails_filling}
 use Rattle.gm_sync.proofs.audit.amiss.Goals as goal
 
 pub returns-then-not-audits-clause-looks : goal.returns-then-not-audits-clause-looks
@@ -54,24 +55,32 @@ returns-in-Ok-clause-told g c = λ asked honest kept t s has are.
 
 pub returns-in_err-names-clause-faults : goal.returns-in_err-names-clause-faults
 returns-in_err-names-clause-faults g c =
-    told g.S.Store g.H.Shelf c.args.bench.now c.audit.new.self _
+    told (FailsFilling g.S.Store g.H.Shelf IsNone c.args.bench.now c.audit.new.self) _
     c.in_err-names.field-0.0 (search rules)
-    (look_fails g.S.Store g.H.Shelf c.args.bench.now c.audit.new.self _ _ refl
+    (look_fails_filling g.S.Store g.H.Shelf IsNone c.args.bench.now c.audit.new.self _ _ refl
     c.in_err-names.ensures.looks c.in_err-names.ensures.closes
     (store_of_records g.S.Store g.H.Shelf _ _ c.in_err-names.ensures.records))
 
 pub returns-in_err-state-clause-faults : goal.returns-in_err-state-clause-faults
 returns-in_err-state-clause-faults g c =
-    told g.S.Store g.H.Shelf c.args.bench.now c.view.new.self _
+    told (FailsFilling g.S.Store g.H.Shelf IsNone c.args.bench.now c.view.new.self) _
     c.in_err-state.field-0.0 (search rules)
-    (fails_then g.S.Store g.H.Shelf (λ x. ⊥) c.args.bench.now c.audit.new.self c.view.new.self _
-    (fills_looked g.S.Store g.H.Shelf (λ x. ⊥) c.args.bench.now c.args.bench.now c.audit.new.self
-    c.in_ok-names.names (fills_none g.S.Store g.H.Shelf (λ x. ⊥) c.args.bench.now)
+    (fails_filling_then g.S.Store g.H.Shelf IsNone c.args.bench.now c.audit.new.self
+    c.view.new.self _
+    (fills_looked g.S.Store g.H.Shelf IsNone c.args.bench.now c.args.bench.now c.audit.new.self
+    c.in_ok-names.names (fills_none g.S.Store g.H.Shelf IsNone c.args.bench.now)
     c.in_ok-names.ensures.looks)
     (look_keeps g.S.Store g.H.Shelf c.audit.new.self c.view.new.self c.in_err-state.ensures.looks)
-    (look_fails g.S.Store g.H.Shelf c.audit.new.self c.view.new.self _ _ refl
+    (look_fails_filling g.S.Store g.H.Shelf IsNone c.audit.new.self c.view.new.self _ _ refl
     c.in_err-state.ensures.looks c.in_err-state.ensures.closes
     (store_of_records g.S.Store g.H.Shelf _ _ c.in_err-state.ensures.records)))
 
 pub returns-clause-faults : goal.returns-clause-faults
-returns-clause-faults g c = memory_fails g.S.Store g.H.Shelf c.args.bench.now c.view.new.self
+returns-clause-faults g c =
+    memory_fails_filling g.S.Store g.H.Shelf IsNone c.args.bench.now c.view.new.self
+    (fills_looked g.S.Store g.H.Shelf IsNone c.args.bench.now c.audit.new.self c.view.new.self
+    c.in_ok-state.state
+    (fills_looked g.S.Store g.H.Shelf IsNone c.args.bench.now c.args.bench.now c.audit.new.self
+    c.in_ok-names.names (fills_none g.S.Store g.H.Shelf IsNone c.args.bench.now)
+    c.in_ok-names.ensures.looks)
+    c.in_ok-state.ensures.looks)
