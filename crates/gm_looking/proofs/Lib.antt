@@ -1,0 +1,3 @@
+pub mod AllIsWell
+pub mod NothingAmiss
+pub mod NothingFound

@@ -1,3 +1,4 @@
+pub mod AllWell
 pub mod Checks
 pub mod Looks
 pub use Rattle.gm_process.specs.Statuses

@@ -3,6 +3,7 @@
 
 ghost use Rattle.std.specs.Prelude.{IfOk};
 ghost use Rattle.gm_process.specs.Statuses.{MayRefuse};
+ghost use Rattle.gm_shelf.specs.Keeping.{ReadsOnly};
 ghost use Rattle.gm_looking.specs.Checks.{AreAmiss, IsCheckOf};
 
 use crate::checked::check_report;
@@ -17,7 +18,7 @@ use gm_state::State;
 use gm_unlike::{Amiss, Checkup, amiss_shelf};
 use std::io::Write;
 
-// What is amiss of the images.
+// What is amiss of the images, which are only read.
 fn amiss_of<H: Shelf, I, O, E: Write>(
     rt: &HostRuntime,
     checking: Checking,
@@ -25,8 +26,9 @@ fn amiss_of<H: Shelf, I, O, E: Write>(
     shelf: &mut H,
     streams: &mut Streams<'_, I, O, E>,
 ) -> Result<Amiss, Fault>
-    ensures { H.honest shelf.old → IfOk result (λ amiss. AreAmiss checking state.now
+    ensures amiss { H.honest shelf.old → IfOk result (λ amiss. AreAmiss checking state.now
         (H.size shelf.old) (H.view shelf.old).seen amiss.unlike.items amiss.flaws.items) }
+    ensures looks { ReadsOnly H.Shelf shelf.old shelf.new }
 {
     let style = streams
         .explaining
@@ -50,6 +52,7 @@ pub fn check_shelf<H: Shelf, I, O, E: Write>(
     ensures told { H.honest shelf.old → IfOk result (IsCheckOf checking whole.now bytes
         (H.size shelf.old) (H.view shelf.old).seen) }
     ensures ends { IfOk result (λ report. MayRefuse report.status) }
+    ensures looks { ReadsOnly H.Shelf shelf.old shelf.new }
 {
     let records = &whole.loaded;
     let amiss = amiss_of(rt, checking, &records.state, shelf, streams)?;
