@@ -1,0 +1,2 @@
+pub mod OneGuarded
+pub mod UntoldLosses

@@ -1,6 +1,7 @@
 //! What is done only if whoever runs the program wants it.
 
-ghost use Rattle.std.specs.Prelude.{IfOk, IsTrue};
+ghost use Rattle.std.specs.Prelude.{◌≡◌, ◌&&◌, IfOk, IfSome, IsTrue};
+ghost use Rattle.gm_handing_in.specs.Insistence.{says_yes};
 
 use gm_answers::not_done_in;
 use gm_command_line::Form;
@@ -14,7 +15,10 @@ use std::io::{self, BufRead, Write};
 fn goes_on<I: BufRead, O, E: Write>(
     alloc: Global,
     streams: &mut Streams<'_, I, O, E>,
-) -> io::Result<bool> {
+) -> io::Result<bool>
+    ensures { IfOk result (λ goes_on. IfSome (I.remaining streams.old.input.now)
+        (λ bytes. goes_on ≡ says_yes bytes)) }
+{
     write!(streams.complaints, "go on? (yes or no) ")?;
     streams.complaints.flush()?;
     let mut answer = String::new(alloc);
@@ -48,6 +52,9 @@ pub fn is_wanted<I: BufRead, O: Write, E: Write>(
     // It is wanted only if there is somebody to ask.
     ensures asked { IfOk result (λ is_wanted. IsTrue is_wanted
         → IsTrue streams.old.explaining.asks) }
+    // Of an input whose bytes are known, just if there is, and its next line is `yes`.
+    ensures yes { IfOk result (λ is_wanted. IfSome (I.remaining streams.old.input.now)
+        (λ bytes. is_wanted ≡ (streams.old.explaining.asks && says_yes bytes))) }
 {
     let asks = streams.explaining.asks;
     if !asks {

@@ -3,8 +3,9 @@
 //!
 //! `single.rt` hands in one command (`do`), `batch.rt` those of an input, and `serving.rt` those
 //! that come over connections; each says how the program ends then (`specs/Ends.antt`). What is
-//! told of a command is in `gm_answers`. `lost_by.rt` finds what would be lost by a command,
-//! `loss_sentences.rt` says it, and `insistence.rt` asks whether it is carried out all the same.
+//! told of a command is in `gm_answers`. `lost_by.rt` finds what would be lost by a command, and
+//! whether it is let go (`specs/LettingGo.antt`), `loss_sentences.rt` says it, and `insistence.rt`
+//! asks whether it is carried out all the same (`specs/Insistence.antt`).
 //! `guard.rt` holds back what would lose something where nobody can be asked
 //! (`specs/Guarded.antt`): of a batch, in which `forced_line.rt` finds the lines that are carried
 //! out all the same (`specs/Forced.antt`), and over HTTP (`guarded_service.rt`). `uses.rt` looks

@@ -1,5 +1,8 @@
 //! What a command would take away for good, in sentences.
 
+ghost use Rattle.std.specs.Prelude.{◌≡◌, IfOk, is_none, length};
+ghost use Rattle.gm_handing_in.specs.LettingGo.{is_of_whole, sentence_count, whole_images};
+
 use gm_commands::Command;
 use gm_losses::Loss;
 use gm_metadata::Label;
@@ -42,7 +45,9 @@ both may have gone on alone, and a sync writes over it"
 }
 
 // What is lost, in a sentence. Of images that are whole there is one for all.
-fn sentence(alloc: Global, loss: &Loss) -> Result<Option<String>, AllocError> {
+fn sentence(alloc: Global, loss: &Loss) -> Result<Option<String>, AllocError>
+    ensures { IfOk result (λ sentence. is_none sentence ≡ is_of_whole loss.now) }
+{
     let text = match loss {
         Loss::Whole { .. } => return Ok(None),
         Loss::LastSector { provider } => format!(in alloc;
@@ -85,12 +90,17 @@ fn sentence(alloc: Global, loss: &Loss) -> Result<Option<String>, AllocError> {
     Ok(Some(text?))
 }
 
-// The image, if it is whole beside a DIRTY source.
-fn whole_image(loss: &Loss) -> Option<Label> {
-    match *loss {
-        Loss::Whole { provider } => Some(provider),
-        _ => None,
-    }
+// The images that are whole beside a DIRTY source.
+fn whole_images(alloc: Global, losses: &[Loss]) -> Result<Vec<Label>, AllocError>
+    ensures { IfOk result (λ images. images.items ≡ whole_images losses.now) }
+{
+    losses
+        .iter()
+        .filter_map(|loss| match *loss {
+            Loss::Whole { provider } => Some(provider),
+            _ => None,
+        })
+        .collect(alloc)
 }
 
 /// All that is lost by a command, in sentences.
@@ -98,22 +108,23 @@ pub(crate) fn sentences_of(
     alloc: Global,
     command: &Command,
     losses: &[Loss],
-) -> Result<Vec<String>, AllocError> {
+) -> Result<Vec<String>, AllocError>
+    ensures { IfOk result (λ sentences.
+        length sentences.items ≡ sentence_count command.now losses.now) }
+{
     let mut sentences = Vec::new(alloc);
     for loss in losses {
         if let Some(sentence) = sentence(alloc, loss)? {
             sentences.push(sentence)?;
         }
     }
-    let whole: Vec<Label> = losses
-        .iter()
-        .filter_map(|loss| whole_image(loss))
-        .collect(alloc)?;
-    match command {
-        Command::Adopt { name, .. } if !whole.is_empty() => {
-            sentences.push(whole_sentence(alloc, *name, &whole)?)?;
-        }
-        _ => {}
+    let Command::Adopt { name, .. } = command else {
+        return Ok(sentences);
+    };
+    let whole = whole_images(alloc, losses)?;
+    if whole.is_empty() {
+        return Ok(sentences);
     }
+    sentences.push(whole_sentence(alloc, *name, &whole)?)?;
     Ok(sentences)
 }

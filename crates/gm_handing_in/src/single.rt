@@ -1,10 +1,16 @@
 //! The command `do`, which hands in one command.
 
-ghost use Rattle.std.specs.Prelude.{◌≡◌, IfOk, OnOk};
-ghost use Rattle.gm_bench.specs.Benches.{progress_of};
+ghost use Rattle.std.specs.Prelude.{◌≡◌, ◌∷◌, IfOk, IsTrue, OnOk};
+ghost use Rattle.gm_registry.specs.Registry.{DiskKept, WasClean};
+ghost use Rattle.gm_bench.specs.Benches.{progress_of, registry_of, shelf_of};
 ghost use Rattle.gm_bench.specs.Phases.{TakesCommands};
+ghost use Rattle.gm_front.specs.Closing.{outcome_fault};
+ghost use Rattle.gm_front.specs.Guards.{IsGuarded};
 ghost use Rattle.gm_front.specs.Outcomes.{is_refused};
+ghost use Rattle.gm_lines.specs.Asked.{asked_by, asked_of};
+ghost use Rattle.gm_words.specs.Lines.{texts};
 ghost use Rattle.gm_process.specs.Statuses.{MayRefuse, status_of_refused};
+ghost use Rattle.gm_handing_in.specs.Guarded.{IsOneGuarded, OnlySees};
 
 use crate::lost_by::lets_go;
 use crate::uses::are_free;
@@ -35,7 +41,9 @@ pub struct One<'a> {
 }
 
 // The key and the words, as the pieces of a line.
-fn pieces<'a>(alloc: Global, key: &'a str, words: &[&'a str]) -> Result<Vec<&'a str>, AllocError> {
+fn pieces<'a>(alloc: Global, key: &'a str, words: &[&'a str]) -> Result<Vec<&'a str>, AllocError>
+    ensures { IfOk result (λ pieces. texts pieces.items ≡ key.now ∷ texts words.now) }
+{
     let mut pieces = Vec::new(alloc);
     pieces.push(key)?;
     for word in words {
@@ -47,6 +55,7 @@ fn pieces<'a>(alloc: Global, key: &'a str, words: &[&'a str]) -> Result<Vec<&'a 
 // How the program ends by what its command came to.
 fn status_of(outcome: &Outcome<'_>) -> Result<Status, Fault>
     ensures value { IfOk result (λ status. status ≡ status_of_refused (is_refused outcome.now)) }
+    ensures sound { OnOk result (outcome_fault outcome.now ≡ None) }
     ensures ends { IfOk result MayRefuse }
 {
     match *outcome {
@@ -66,6 +75,7 @@ fn passes<S: Alter, H: Shelf, I: BufRead, O: Write, E: Write>(
     bench: &mut Bench<S, H>,
     streams: &mut Streams<'_, I, O, E>,
 ) -> Result<bool, Fault>
+    ensures sees { OnOk result (OnlySees S.Store H.Shelf bench.old bench.new) }
     ensures same { OnOk result (progress_of bench.new ≡ progress_of bench.old) }
     ensures phase { TakesCommands (progress_of bench.old) → TakesCommands (progress_of bench.new) }
 {
@@ -103,7 +113,10 @@ fn tell<S: Alter, H: Shelf, I, O: Write, E: Write>(
     bench: &mut Bench<S, H>,
     streams: &mut Streams<'_, I, O, E>,
 ) -> Result<Status, Fault>
+    ensures value { IfOk result (λ status. status ≡ status_of_refused (is_refused outcome.now)) }
+    ensures sound { OnOk result (outcome_fault outcome.now ≡ None) }
     ensures ends { IfOk result MayRefuse }
+    ensures clean { WasClean S.Store (registry_of bench.old) (registry_of bench.new) }
     ensures phase { TakesCommands (progress_of bench.old) → TakesCommands (progress_of bench.new) }
 {
     let alloc = rt.alloc();
@@ -129,7 +142,7 @@ fn tell_withheld<I, O: Write, E: Write>(
     form: Form,
     streams: &mut Streams<'_, I, O, E>,
 ) -> Result<Status, Fault>
-    ensures { IfOk result MayRefuse }
+    ensures { IfOk result (λ status. status ≡ Status.Refused) }
 {
     let text = withheld_in(rt.alloc(), form, key, list)?;
     streams.output.write_all(text.as_bytes())?;
@@ -148,7 +161,11 @@ fn asked<'a, S: Alter, H: Shelf, I, O, E: Write>(
     streams: &mut Streams<'_, I, O, E>,
 ) -> Guarded<'a>
     requires { TakesCommands (progress_of bench.old) }
-    ensures { TakesCommands (progress_of bench.new) }
+    ensures guarded { IsTrue checks.images → H.honest (shelf_of bench.old)
+        → DiskKept S.Store (registry_of bench.new)
+        → IsGuarded S.Store H.Shelf bench.old bench.new (asked_of request.now) result }
+    ensures clean { WasClean S.Store (registry_of bench.old) (registry_of bench.new) }
+    ensures phase { TakesCommands (progress_of bench.new) }
 {
     let alloc = rt.alloc();
     let style = streams.explaining.style(!streams.explaining.at_terminal);
@@ -170,6 +187,10 @@ pub fn hand_in_one<S: Alter, H: Shelf, I: BufRead, O: Write, E: Write>(
     streams: &mut Streams<'_, I, O, E>,
 ) -> Result<Status, Fault>
     requires { TakesCommands (progress_of bench.old) }
+    ensures guarded { IsTrue one.entry.checks.images → H.honest (shelf_of bench.old)
+        → DiskKept S.Store (registry_of bench.new) → IfOk result
+        (IsOneGuarded S.Store H.Shelf bench.old bench.new
+        (asked_by (one.entry.key.now ∷ texts one.entry.words.now))) }
     ensures ends { IfOk result MayRefuse }
     ensures phase { TakesCommands (progress_of bench.new) }
 {
