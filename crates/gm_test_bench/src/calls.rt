@@ -137,11 +137,14 @@ pub fn must_be_left<S: Alter, H: Shelf>(
     }
 }
 
+/// Opens a bench. What is pending must be what a stop left.
 pub fn open<S: Alter + Drop, H: Shelf + Drop>(
     alloc: Global,
     store: Connection<S>,
     shelf: H,
 ) -> Result<Bench<S, H>, Fail> {
+    let (mut store, mut shelf) = (store, shelf);
+    must_be_left(alloc, &mut store, &mut shelf)?;
     match try_open(alloc, store, shelf)? {
         Ok(bench) => Ok(bench),
         Err(left) => Err(left.fault)?,
