@@ -25,7 +25,7 @@ pub struct Service {
     pub count: u32,
     /// Whether a line is logged for each.
     pub logs: bool,
-    /// Whether the images are audited first, and nothing is served if the audit lists any.
+    /// Whether the images of each command are audited first. It is withheld if the audit lists one.
     pub audits: bool,
     /// Whether requests that web pages sent are served too.
     pub any_origin: bool,
@@ -55,8 +55,7 @@ pub enum Scope {
 #[derive(Clone, Copy)]
 pub struct Filling {
     pub scope: Scope,
-    /// Whether the images are audited first, and nothing is filled if the audit lists one of the
-    /// mirrors'.
+    /// Whether images are audited first. A mirror is passed over if the audit lists one of its own.
     pub audits: bool,
     /// Whether nothing is filled while something else uses one of the mirrors' images.
     pub heeds_use: bool,

@@ -5,9 +5,10 @@
 //! `over_streams.rt` is all of it, for the jobs that `gm_command_line` reads from words and from
 //! the environment. What is done at a bench, by `bench_command.rt`, is done in the folder and with
 //! the registry that `place.rt` opens and closes (`specs/Ends.antt` says how it ends), after
-//! `before_opening.rt` has looked at the images that pending writes name; `recover.rt` has the
-//! command `recover`. The other commands stand in crates of their own: `gm_dump`, `gm_looking`,
-//! `gm_filling`, `gm_handing_in`, `gm_by_itself`, `gm_replacing` and `gm_writing`.
+//! `before_opening.rt` has looked at the images that pending writes name, by `gm_pending` and
+//! `gm_in_use`; `recover.rt` has the command `recover`. The other commands are in crates of their
+//! own: `gm_dump`, `gm_looking`, `gm_filling`, `gm_handing_in`, `gm_by_itself`, `gm_replacing` and
+//! `gm_writing`.
 #![tactic(auto)]
 
 mod before_opening;
