@@ -23,10 +23,10 @@ WORDS = {
     "CHANGELOG.md": 720,
     "docs/ARCHITECTURE.md": 3250,
     "docs/DECISIONS.md": 5750,
-    "docs/DEFINITIONS.md": 4200,
+    "docs/DEFINITIONS.md": 4600,
     "docs/GATE.md": 550,
-    "docs/PERFORMANCE.md": 1000,
-    "docs/PROOF.md": 3900,
+    "docs/PERFORMANCE.md": 1090,
+    "docs/PROOF.md": 4250,
     "docs/REFERENCE.md": 10450,
     "docs/USE.md": 5400,
 }
