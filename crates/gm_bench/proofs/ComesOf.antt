@@ -1,6 +1,7 @@
 -- What is pending comes of what was accepted: at rest, after a commit, and on the way.
-use Rattle.gm_bench.proofs.Common.{◌≡◌, ◌∙◌, ◌≤◌, ◌-◌, ◌<◌, inl, inr, ℕ, Bool, true, false, refl, sym, ap, subst, arith, List, [], Option, Some, None, IsSome, list_any, and_parts, Image, SameThere, Intent, Meta, Clear, Copy, Dirty, Patch, Mirror, Component, name, component_of, IsOf, IsMeta, Says, AllSay, is_last, is_dirty_of, names, Has, World, Sound, Step, Command, Reply, one, IsReadable, AreReadable, IsPartlyDone, last_named, placed_by, ComesOf, IsBetween, intents_of, is_place, cases_Bool, encoded, metadata, Tables, Leads}
+use Rattle.gm_bench.proofs.Common.{◌≡◌, ◌∙◌, ◌≤◌, ◌-◌, ◌<◌, inl, inr, ℕ, Bool, true, false, refl, sym, ap, subst, arith, List, [], Option, Some, None, IsSome, list_any, and_parts, Image, SameThere, Intent, Meta, Clear, Copy, Dirty, Patch, Mirror, Component, name, component_of, IsOf, IsMeta, Says, AllSay, is_last, is_dirty_of, names, Has, World, Sound, Command, one, AreIntentsOf, InTurn, IsSeries, Keyed, calls_of, IsReadable, AreReadable, IsPartlyDone, last_named, placed_by, ComesOf, IsBetween, is_place, cases_Bool, encoded, metadata, Tables, Leads}
 use Rattle.gm_rules.proofs.GrownRecords.{Grows}
+use Rattle.gm_rules.proofs.SeriesTurns.{steps_in_turn, steps_sizes}
 use Rattle.gm_bench.proofs.LossLists.{last_is, range_of}
 
 -- a provider with a last sector has a size
@@ -40,19 +41,19 @@ settled_comes ts x u w c = record {
 
 -- ---- after a commit
 
--- a command is pending, and the image is still that of before
-pub step_comes : (u w : World) (key : List ℕ) (c : Command) (r : Reply) (ts : List Intent)
-    (x : Image) → Step u key c w r → Sound w → Grows u.state w.state
-    → ts ≡ intents_of c u.state w.state → SameThere u.size x u.shelf → ComesOf ts x u w
-step_comes u w key c r ts x step sound grown is same = record {
+-- a command is pending, or several advances, and the image is still that of before
+pub turns_come : (u w : World) (c : Command) (keys : List Keyed) (ts : List Intent) (x : Image)
+    → IsSeries c keys → InTurn u c keys w → Sound w → Grows u.state w.state
+    → AreIntentsOf u c w ts → SameThere u.size x u.shelf → ComesOf ts x u w
+turns_come u w c keys ts x series turns sound grown is same = record {
   losses = 0;
   begun = true;
   pending = record {
-    key = key;
     command = c;
+    keys = keys;
+    series = series;
     stepped = w;
-    reply = r;
-    step = step;
+    turns = turns;
     sound = sound;
     state = refl;
     answered = refl;
@@ -61,7 +62,9 @@ step_comes u w key c r ts x step sound grown is same = record {
   rises = λ a b h k e. (grown.mirrors a b h k e).genid;
   lasts = λ q j last place.
       let there : IsSome (u.size q) =
-      subst (λ (o : Option ℕ). IsSome o) (step.sizes q) (has_last_there (w.size q) j last) in
+      subst (λ (o : Option ℕ). IsSome o)
+      (steps_sizes u w (calls_of c keys) (steps_in_turn u w c keys turns) q)
+      (has_last_there (w.size q) j last) in
       inl (refl, same q there j);
 }
 

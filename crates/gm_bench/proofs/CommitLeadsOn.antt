@@ -1,9 +1,9 @@
--- A commit leads to the step of its command.
-use Rattle.gm_bench.proofs.Common.{◌≡◌, ◌∙◌, ℕ, ◌+◌, ◌-◌, List, [], ◌∷◌, ◌++◌, map, length, refl, sym, ap, subst, arith, append-nil, IsSome, IsPermutation, length-map, IsPermutation-refl, IsPermutation-cons, length_permutation, Image, Sizes, Bears, Command, Reply, words_of, IsAtHand, IsRedo, Records, Tables, CommandRow, answer_row, intent_rows, patch_rows, World, Answered, present, some_there, intents_of, reply_to, Changed, Makes, changed_by, Plan, answer, seen_of, with_accepted, command_row, HoldState, change_held, change_intents, change_commands, change_patches, Leads, KeepsClaims, EachNewClaims}
-use Rattle.gm_rules.proofs.GrownRecords.{grows}
-use Rattle.gm_bench.proofs.ComesOf.{step_comes}
+-- A commit leads to the steps of its calls.
+use Rattle.gm_bench.proofs.Common.{◌≡◌, ◌∙◌, ℕ, ◌+◌, ◌-◌, List, [], ◌∷◌, ◌++◌, map, length, refl, sym, ap, subst, arith, append-nil, IsSome, IsPermutation, length-map, IsPermutation-refl, IsPermutation-cons, length_permutation, Image, Sizes, Bears, Command, Reply, words_of, IsAtHand, IsRedo, Records, Tables, CommandRow, answer_row, intent_rows, patch_rows, World, Answered, present, some_there, Changed, changed_by, Further, SeriesPlan, Keyed, Steps, answered_on, calls_of, keyed_in, keyed_of, string_bytes, with_accepted, with_command, with_further, command_row, HoldState, change_held, change_intents, change_commands, change_patches, Leads, KeepsClaims, EachNewClaims}
+use Rattle.gm_rules.proofs.SeriesTurns.{grown_in_turn, steps_in_turn, steps_sizes, turns_rows}
+use Rattle.gm_bench.proofs.ComesOf.{turns_come}
 use Rattle.gm_bench.proofs.ShelfProviders.{at_hand_up, masked}
-use Rattle.gm_bench.proofs.ClaimsBefore.{claims_before}
+use Rattle.gm_bench.proofs.ClaimsBefore.{claims_before, turns_tell}
 use Rattle.gm_bench.proofs.WorldAtRest.{at_rest}
 
 pub no_rows : (t : Tables) → IsPermutation (intent_rows 1 []) t.intents → t.intents ≡ []
@@ -13,44 +13,93 @@ no_rows t p = by t.intents (length_permutation (intent_rows 1 []) t.intents p)
     by [] e = refl
     by (x ∷ xs) e = absurd (omega (arith, e))
 
+-- the row of one more answer
+one_row : (old : List Answered) (rows : List CommandRow) (key : List ℕ) (c : Command) (r : Reply)
+    (n : ℕ) → IsPermutation (map answer_row old) rows → n ≡ length old + 1
+    → IsPermutation (map answer_row (record {
+      key = key;
+      command = c;
+      number = length old + 1;
+      reply = r;
+    } ∷ old)) (command_row key n (words_of c) r ∷ rows)
+one_row old rows key c r n are is =
+    subst (λ (k : ℕ). IsPermutation (map answer_row (record {
+      key = key;
+      command = c;
+      number = length old + 1;
+      reply = r;
+    } ∷ old)) (command_row key k (words_of c) r ∷ rows)) (sym is)
+    (IsPermutation-cons (command_row key (length old + 1) (words_of c) r) (map answer_row old) rows
+    are)
+
+-- the rows of the answers under further keys
+further_rows : (old : List Answered) (c : Command) (fs : List Further) (n : ℕ) (t : Tables)
+    → IsPermutation (map answer_row old) t.commands → n ≡ length old + 1
+    → IsPermutation (map answer_row (answered_on old c (map keyed_of fs)))
+    (with_further fs n (words_of c) t).commands
+further_rows old c [] n t are is = are
+further_rows old c (f ∷ fs) n t are is =
+    further_rows (record {
+      key = string_bytes f.key;
+      command = c;
+      number = length old + 1;
+      reply = f.reply;
+    } ∷ old) c fs (n + 1)
+    (with_command (command_row (string_bytes f.key) n (words_of c) f.reply) t)
+    (one_row old t.commands (string_bytes f.key) c f.reply n are is) (omega (arith, is))
+
 module _ (u w : World) (key : List ℕ) (c : Command) (ch : Changed) (t : Tables) (x : Image)
-    (makes : Makes u.state (seen_of u) c ch) (plan : Plan u key c ch.intents ch.bytes w)
-    (l : Leads t [] [] x u) where
+    (plan : SeriesPlan u key c ch w) (l : Leads t [] [] x u) where
   abbrev after : Tables
   after = with_accepted ch key (words_of c) t
 
+  abbrev keyed : List Keyed
+  keyed = keyed_in key ch
+
+  steps : Steps u (calls_of c keyed) w
+  steps = steps_in_turn u w c keyed plan.turns
+
   state_is : changed_by ch u.state ≡ w.state
-  state_is = makes.records ∙ sym plan.step.records
+  state_is = plan.records
 
   sizes_are : u.size ≡ w.size
-  sizes_are = λ i q. sym (plan.step.sizes q) i
+  sizes_are = λ i q. sym (steps_sizes u w (calls_of c keyed) steps q) i
 
   as_many : length t.commands ≡ length u.answered
   as_many = length_permutation (map answer_row u.answered) t.commands l.records.commands
       ∙ length-map u.answered answer_row
-
-  key_row : answer_row (answer u key c (reply_to c u.state))
-      ≡ command_row key (length t.commands + 1) (words_of c) ch.reply
-  key_row =
-      ap (λ (k : ℕ). command_row key (k + 1) (words_of c) (reply_to c u.state)) (sym as_many)
-      ∙ ap (λ (r : Reply). command_row key (length t.commands + 1) (words_of c) r) (sym makes.reply)
 
   held : HoldState w.state after
   held = subst (λ (s : Records). HoldState s after) state_is
       (change_held ch key (words_of c) u.state t l.sound.state
       (record { mirrors = l.records.mirrors; components = l.records.components }))
 
+  first_row : IsPermutation (map answer_row (record {
+    key = key;
+    command = c;
+    number = length u.answered + 1;
+    reply = ch.reply;
+  } ∷ u.answered))
+      (command_row key (length t.commands + 1) (words_of c) ch.reply ∷ t.commands)
+  first_row = one_row u.answered t.commands key c ch.reply (length t.commands + 1)
+      l.records.commands (omega (arith, as_many))
+
   keys : IsPermutation (map answer_row w.answered) after.commands
   keys =
       subst (λ (rows : List CommandRow). IsPermutation (map answer_row w.answered) rows)
       (sym (change_commands ch key (words_of c) t))
-      (subst (λ (l : List Answered). IsPermutation (map answer_row l)
-      (command_row key (length t.commands + 1) (words_of c) ch.reply ∷ t.commands))
-      (sym plan.step.answered)
-      (subst (λ (r : CommandRow). IsPermutation (answer_row (answer u key c (reply_to c u.state))
-      ∷ map answer_row u.answered) (r ∷ t.commands)) key_row
-      (IsPermutation-cons (answer_row (answer u key c (reply_to c u.state)))
-      (map answer_row u.answered) t.commands l.records.commands)))
+      (subst (λ (a : List Answered). IsPermutation (map answer_row a)
+      (with_further ch.further (length t.commands + 2) (words_of c)
+      (with_command (command_row key (length t.commands + 1) (words_of c) ch.reply) t)).commands)
+      (sym (turns_rows u w c keyed plan.turns))
+      (further_rows (record {
+        key = key;
+        command = c;
+        number = length u.answered + 1;
+        reply = ch.reply;
+      } ∷ u.answered) c ch.further (length t.commands + 2)
+      (with_command (command_row key (length t.commands + 1) (words_of c) ch.reply) t) first_row
+      (omega (arith, as_many))))
 
   rows_are : after.intents ≡ intent_rows 1 ch.intents
   rows_are = change_intents ch key (words_of c) t
@@ -97,9 +146,9 @@ module _ (u w : World) (key : List ℕ) (c : Command) (ch : Changed) (t : Tables
     sizes = sizes_are;
     after = plan.claims;
     copies = plan.copies;
-    old = claims_before u w l.sound key ch.intents ch.bytes c plan x (at_rest t x u l);
+    old = claims_before u w l.sound (turns_tell u w c keyed l.sound plan.sound plan.series plan.turns)
+        x (at_rest t x u l);
     new = new_claims;
-    comes = step_comes u w key c (reply_to c u.state) ch.intents x plan.step plan.sound
-        (grows u w key c (reply_to c u.state) l.sound plan.sound plan.step)
-        (makes.intents ∙ ap (intents_of c u.state) (sym plan.step.records)) (at_rest t x u l);
+    comes = turns_come u w c keyed ch.intents x plan.series plan.turns plan.sound
+        (grown_in_turn u w c keyed l.sound plan.turns) plan.intents (at_rest t x u l);
   }

@@ -46,9 +46,14 @@ pub use Rattle.gm_refusals.proofs.PartAgrees.{is_state, whole_is_part}
 pub use Rattle.gm_refusals.proofs.SeenAlike.{same_mid, SeeAlike, same_source}
 pub use Rattle.gm_refusals.specs.declared.{facts.Fact.Fact, refusals.CallRefusal.TheVariants.NoKey, refusals.CallRefusal.TheVariants.KeyTaken, refusals.CallRefusal.TheVariants.NoRoom, refusals.CallRefusal.TheVariants.ByRules, refusals.Refusal.Refusal, refusals.Refusal.TheVariants.NoMirror, refusals.Refusal.TheVariants.NameTaken, refusals.Refusal.TheVariants.MidTaken, refusals.Refusal.TheVariants.Absent, refusals.Refusal.TheVariants.ProviderTaken, refusals.Refusal.TheVariants.CarriesMetadata, refusals.Refusal.TheVariants.TooSmall, refusals.Refusal.TheVariants.NotMember, refusals.Refusal.TheVariants.DidTaken, refusals.Refusal.TheVariants.Full, refusals.Refusal.TheVariants.TooManyMirrors, refusals.Refusal.TheVariants.SomeLost, refusals.Refusal.TheVariants.LastActive, refusals.Refusal.TheVariants.AlreadyInactive, refusals.Refusal.TheVariants.NotInactive, refusals.Refusal.TheVariants.NoneLost, refusals.Refusal.TheVariants.NotSynchronizing, refusals.Refusal.TheVariants.LastSyncid, refusals.Refusal.TheVariants.LastGenid, refusals.Refusal.TheVariants.NothingGiven, refusals.Refusal.TheVariants.NotAdoptable, refusals.Refusal.TheVariants.WrongSize, refusals.Refusal.TheVariants.NoMetadata, refusals.Refusal.TheVariants.BeingFilled, refusals.Refusal.TheVariants.BeyondEnd}
 pub use Rattle.gm_changes.proofs.Common.{reply_to, Changed, Makes, changed_by, intents_of, bytes_of, after, metas, Decides, LeavesPart}
+pub use Rattle.gm_changes.specs.declared.change.Further.{Further}
+pub use Rattle.gm_registry.specs.Accepting.{RepliesFit}
+pub use Rattle.gm_registry.specs.Changes.{with_command, with_further}
+pub use Rattle.gm_registry.specs.FittingChanges.{AreFreeInTurn, IsFreeUnderFurther}
 pub use Rattle.gm_changes.proofs.FewWritten.{few_members, few_intents, few_put, names_among}
 pub use Rattle.gm_rules.proofs.Common.{Call, IsBadCall, Calls, Step, Bad, Plan, answer, CanAnswer, HasPlan, IsItself, IsOwn}
 pub use Rattle.gm_rules.proofs.EveryPlan.{every_plan}
+pub use Rattle.gm_rules.specs.Series.{AreIntentsOf, DoneFrom, InTurn, IsFirstAnswered, IsSeries, Keyed, SeriesPlan, Steps, answered_on, answers_after, calls_of, keyed_in, keyed_of, last_reply}
 pub use Rattle.gm_rules.proofs.StandIn.{reply_told, key, plan, planned, sound, stand_in, hand_moves, hand_told, state_told}
 pub use Rattle.gm_apply.proofs.Common.{LacksProvider, LacksSector, CountsEqual, reach_of, Continues, IsPartlyDone, PlacesAreNew, is_marked, Stage, Before, Marked, Behind}
 pub use Rattle.gm_looks.proofs.Common.{IsAudit, IsScrub, IsUnlike}
@@ -63,28 +68,30 @@ pub use Rattle.gm_registry.proofs.ReadsInTurn.{sees_registry}
 pub use Rattle.gm_registry.proofs.StepsInTurn.{less_room}
 pub use Rattle.gm_registry.proofs.Written.{change_held, change_intents, change_commands, change_patches}
 pub use Rattle.gm_registry.specs.Registry.{LeavesAlone, Reads, Writes}
-pub use Rattle.gm_bench.specs.Accepting.{LeavesStep, IsAnswered, IsDone, HasNothingElse, WaitsFor, left_by, OrStep}
+pub use Rattle.gm_bench.specs.Accepting.{AreAnswered, AreDone, HasNothingElse, LeavesSteps, OrSteps, WaitsFor, left_by, one_call}
 pub use Rattle.gm_bench.specs.AdoptScope.{adopted_from, compared_with}
 pub use Rattle.gm_bench.specs.Benches.{progress_of, registry_of, shelf_of, redone_of}
-pub use Rattle.gm_bench.specs.Between.{ComesOf, IsBetween, IsOfLoss, IsOfStep, PendingSince, SaysSince, of_genid}
-pub use Rattle.gm_bench.specs.Calls.{HasNothingPending, LooksOn, OnlyLooks, OnlyLooksUp, TellsUnreadable, TellsDisk, most_rows, GoesOn, ClosesOnFault, Keep, TellsOfRecords, TellsStore}
+pub use Rattle.gm_bench.specs.Between.{ComesOf, IsBetween, IsOfLoss, IsOfSteps, PendingSince, SaysSince, of_genid}
+pub use Rattle.gm_bench.specs.Calls.{HasNothingPending, LooksOn, OnlyLooks, OnlyLooksUp, TellsUnreadable, TellsDisk, most_rows, GoesOn, ClosesOnFault, Keep, TellsOfRecords, TellsStore, TellsUnreadableUnder, rows_for}
+pub use Rattle.gm_bench.specs.Keys.{AreFresh, AreReadUnderAll, IsFreeBeside, MayBeTaken, further_keys}
+pub use Rattle.gm_bench.specs.Series.{AcceptBegins, AreBegun, AreJudged, ArePlanned, CanGoOn, GoesOnUnder, HasRoomFor, HaveRoomFor, IsFurtherPlan, IsStretchedBy, IsUnplanned, PutsComponents, calls_in, calls_under, further_in, further_of}
 pub use Rattle.gm_bench.specs.Faults.{IsBeforeWrites, IsOfOpening, of_store, of_shelf, IsOfRegistry}
 pub use Rattle.gm_bench.specs.FoundKeys.{IsExpected, TellsKey, TellsRoom}
 pub use Rattle.gm_bench.specs.GivingUp.{IsUnwritten, StaysUnlost, AnswersLoss, AreUntouched, GivesUp, LacksImage, LeavesUndone}
-pub use Rattle.gm_bench.specs.Judgements.{CanBeAccepted, IsJudgedToFit, IsJudgement}
+pub use Rattle.gm_bench.specs.Judgements.{IsJudgedOnce, CanBeAccepted, IsJudgedToFit, IsJudgement}
 pub use Rattle.gm_bench.specs.KeptCommands.{TellsKept}
 pub use Rattle.gm_bench.specs.Leading.{AllLead, AreAmong, whole, Leads, KeepsClaims, EachNewClaims, ClaimsOf}
 pub use Rattle.gm_bench.specs.Losing.{remaining, writes_to, dropped, left_to_lay, pending_after, as_left, next_of, HasNext, redirected}
 pub use Rattle.gm_bench.specs.Opened.{HoldsKnown, MayBeCarriedOver}
 pub use Rattle.gm_bench.specs.Owed.{AcceptAnswers, AcceptLeaves, ApplyDoes, ApplyLeaves, LeavesRun, IsLeft, LookDoes, LookLeaves, RunAnswers, IsOpening, OpenLeaves, SettleDoes, SettleLeaves}
-pub use Rattle.gm_bench.specs.Phases.{answer_of, phase_carried, phase_of, progress_after, waiting_of, IsUndone, TakesCommands, TakesNext}
-pub use Rattle.gm_bench.specs.Planning.{IsPlanned, IsFitting, IsWorkAtHand, IsDecided, IsPlanAtHand, IsPlanFitting}
+pub use Rattle.gm_bench.specs.Phases.{IsCountOf, series_answer_of, answer_of, phase_carried, phase_of, progress_after, waiting_of, IsUndone, TakesCommands, TakesNext}
+pub use Rattle.gm_bench.specs.Planning.{IsPlannedOnce, IsPlanned, IsFitting, IsWorkAtHand, IsDecided, IsPlanAtHand, IsPlanFitting}
 pub use Rattle.gm_bench.specs.Presence.{first_absent, AreAtHand, serves, is_present, absent_among, providers_in}
 pub use Rattle.gm_bench.specs.Recovering.{IsAt, LeavesOnly, Cover, IsShelfOf, IsCarriedOut, Recovers, IsFound}
 pub use Rattle.gm_bench.specs.Running.{IsRun}
-pub use Rattle.gm_bench.specs.Schedule.{Phase, Event, Accept_returned, Accept_stopped, Apply_returned, Apply_stopped, Settle_returned, Settle_stopped, Hand_in_returned, Hand_in_stopped, Settle_waiting_returned, Settle_waiting_stopped, Run_returned, Run_stopped, Look_returned, Look_stopped, Open_returned, Open_stopped, Now, none, skips, keeps, Moved, Without_returned, Without_stopped, Without_carrying, Entry, Handed_in, Without, IsButMoved, IsStepWithout, Reached, ArePending, LeavesCommit, IsMove, HasCount, IsLeftIn, IsStop, IsRunStop, IsDoneOver, IsOpenOver, IsSoFar, after_answer, after_hand_in, after_run, with_media, Happens, IsStart, Runs, AtRest, OnTheWay, Stopped, Headline, Within, IsStepTo, IsLastStep, IsNew, WithoutCarries, WithoutDoes, WithoutLeaves}
+pub use Rattle.gm_bench.specs.Schedule.{Phase, Event, Accept_returned, Accept_stopped, Apply_returned, Apply_stopped, Settle_returned, Settle_stopped, Hand_in_returned, Hand_in_stopped, Settle_waiting_returned, Settle_waiting_stopped, Run_returned, Run_stopped, Look_returned, Look_stopped, Open_returned, Open_stopped, Now, none, skips, keeps, Moved, Without_returned, Without_stopped, Without_carrying, Entry, Handed_in, Without, IsButMoved, IsStepWithout, Reached, ArePending, LeavesCommit, IsMove, HasCount, count_in, IsAlone, AreAlone, AcceptOne, IsLeftIn, IsStop, IsRunStop, IsDoneOver, IsOpenOver, IsSoFar, after_answer, after_hand_in, after_run, with_media, Happens, IsStart, Runs, AtRest, OnTheWay, Stopped, Headline, Within, AreStepsTo, IsLastStep, IsNew, WithoutCarries, WithoutDoes, WithoutLeaves}
 pub use Rattle.gm_bench.specs.ShelfFacts.{AreEqual, IsFact, Tell, TellSizes, IsHonestToAdopt}
-pub use Rattle.gm_bench.specs.Standing.{IsHandedIn, Stands, LeavesNext}
+pub use Rattle.gm_bench.specs.Standing.{AreHandedIn, IsHandedIn, Stands, LeavesNext}
 pub use Rattle.gm_bench.specs.Stepping.{TakesCommand}
 pub use Rattle.gm_bench.specs.Without.{Carries, CanBeCommitted, CanCommit, IsRedirected, Commits, DoesLoss, HasJudged, IsLost, LeavesLoss, LeavesOpened, loss_call, IsNewLoss, AreOfLoss, IsBadLoss, IsJudged, IsKeptLoss, loss_of, number_of_loss, StaysReadable, StayReadableBehind, DoesWithout, KeepsUndone, LacksFirst, LeavesWithout, AreOfWorld}
-pub use Rattle.gm_bench.specs.declared.{adopt_scope.Compared.Compared, answer.Accepted.Accepted, answer.Answer.Answer, answer.Answer.TheVariants.Done, answer.Answer.TheVariants.Repeated, answer.Work.Work, bench.Bench.Bench, fault.BenchFault.BenchFault, fault.BenchFault.TheVariants.Closed, fault.BenchFault.TheVariants.Disk, fault.BenchFault.TheVariants.Memory, fault.BenchFault.TheVariants.Store, fault.BenchFault.TheVariants.Unreadable, found_key.FoundKey.FoundKey, judgement.Judgement.Judgement, loss.Judged.Judged, loss.Judged.TheVariants.Refused, loss.Judged.TheVariants.Kept, loss.Judged.TheVariants.New, loss.Loss.Loss, loss.LossRefusal.LossRefusal, loss.LossRefusal.TheVariants.ByCall, loss.LossRefusal.TheVariants.OnlySource, loss.LossRefusal.TheVariants.OnShelf, media.Media.Media, open_without.Without.TheVariants.Opened, phase.Progress.Progress, phase.Progress.TheVariants.Ready, phase.Progress.TheVariants.Pending, phase.Progress.TheVariants.Applied, phase.Progress.TheVariants.Failed, phase.Waiting.Waiting, phase.Waiting.TheVariants.Nothing, plan.Planned.Planned, take_up_without.TakenUp.TakenUp, take_up_without.TakenUp.TheVariants.Carried}
+pub use Rattle.gm_bench.specs.declared.{adopt_scope.Compared.Compared, answer.Accepted.Accepted, answer.SeriesAnswer.SeriesAnswer, answer.Answer.Answer, answer.Answer.TheVariants.Done, answer.Answer.TheVariants.Repeated, answer.Work.Work, bench.Bench.Bench, fault.BenchFault.BenchFault, fault.BenchFault.TheVariants.Closed, fault.BenchFault.TheVariants.Disk, fault.BenchFault.TheVariants.Memory, fault.BenchFault.TheVariants.Store, fault.BenchFault.TheVariants.Unreadable, found_key.FoundKey.FoundKey, judgement.Judgement.Judgement, loss.Judged.Judged, loss.Judged.TheVariants.Refused, loss.Judged.TheVariants.Kept, loss.Judged.TheVariants.New, loss.Loss.Loss, loss.LossRefusal.LossRefusal, loss.LossRefusal.TheVariants.ByCall, loss.LossRefusal.TheVariants.OnlySource, loss.LossRefusal.TheVariants.OnShelf, media.Media.Media, open_without.Without.TheVariants.Opened, phase.Progress.Progress, phase.Progress.TheVariants.Ready, phase.Progress.TheVariants.Pending, phase.Progress.TheVariants.Applied, phase.Progress.TheVariants.Failed, phase.Waiting.Waiting, phase.Waiting.TheVariants.Nothing, plan.Planned.Planned, take_up_without.TakenUp.TakenUp, take_up_without.TakenUp.TheVariants.Carried}

@@ -1,5 +1,5 @@
 -- What a call leaves that asks the rules, and writes nothing.
-use Rattle.gm_bench.proofs.Common.{◌≡◌, ◌∙◌, inl, inr, ℕ, List, subst, sym, arith, refl, Result, Ok, Err, IfOk, IfErr, OnOk, on_ok_weaker, Ghosts, Held, Trees, Image, Sizes, IsLawful, IsQuiet, quiet_itself, quiet_moment, Command, Intent, IsAtHand, Has, World, CrashLeaves, CrashLeavesOnly, DiskKept, HasTables, IsRegistry, LeavesAlone, LeavesNothingNew, WasClean, Reads, state, survives_then, BenchFault, Media, TakenUp, OrStep, LeavesStep, IsOfRegistry, OnlyLooksUp, StaysUnlost, AllLead, IsCarriedOut, IsShelfOf, Recovers, IsSettling, saved, Tables}
+use Rattle.gm_bench.proofs.Common.{◌≡◌, ◌∙◌, inl, inr, ℕ, List, subst, sym, arith, refl, Result, Ok, Err, IfOk, IfErr, OnOk, on_ok_weaker, Ghosts, Held, Trees, Image, Sizes, IsLawful, IsQuiet, quiet_itself, quiet_moment, Call, Intent, IsAtHand, Has, World, CrashLeaves, CrashLeavesOnly, DiskKept, HasTables, IsRegistry, LeavesAlone, LeavesNothingNew, WasClean, Reads, state, survives_then, BenchFault, Media, TakenUp, OrSteps, LeavesSteps, IsOfRegistry, OnlyLooksUp, StaysUnlost, AllLead, IsCarriedOut, IsShelfOf, Recovers, IsSettling, saved, Tables}
 use Rattle.gm_shelf.specs.declared.shelf.Shelf.{Ghosts as ShelfGhosts}
 use Rattle.gm_bench.proofs.RegistryLeaves.{leads_in}
 
@@ -42,9 +42,9 @@ module _ {S H : Type 0} (g : Ghosts S) (j : ShelfGhosts H) (r : Held S) (h k : H
       ((j.view k).left_since (j.view h).moment) moments
 
   -- a registry that was only read
-  pub unstepped : (s : Held S) (key : List ℕ) (c : Command) → CrashLeavesOnly g r at.tables
-      → DiskKept g s → LeavesNothingNew g r s → LeavesStep g j r s h k away v u key c
-  unstepped s key c only clean nothing = record {
+  pub unstepped : (s : Held S) (calls : List Call) → CrashLeavesOnly g r at.tables
+      → DiskKept g s → LeavesNothingNew g r s → LeavesSteps g j r s h k away v u calls
+  unstepped s calls only clean nothing = record {
     within = before_step only;
     end = λ db left. elim (nothing.crash clean db left) [
       | inl was ↦ inl (leads_in g j r h away at.tables ts bytes v u only
@@ -54,16 +54,16 @@ module _ {S H : Type 0} (g : Ghosts S) (j : ShelfGhosts H) (r : Held S) (h k : H
   }
 
   -- reads, and then more reads and a commit
-  pub then_step : (mid s : Held S) (l : H) (key : List ℕ) (c : Command)
+  pub then_step : (mid s : Held S) (l : H) (calls : List Call)
       → IsQuiet (j.view h) (j.view l)
-      → CrashLeavesOnly g r at.tables → LeavesStep g j mid s k l away v u key c
-      → LeavesStep g j r s h l away v u key c
-  then_step mid s l key c all only leaves = record {
+      → CrashLeavesOnly g r at.tables → LeavesSteps g j mid s k l away v u calls
+      → LeavesSteps g j r s h l away v u calls
+  then_step mid s l calls all only leaves = record {
     within = leads_in g j r h away at.tables ts bytes v u only
         ((j.view l).left_since (j.view h).moment)
         (λ x left. at.leads x (quiet_moment (j.view h) (j.view l) lawful all x left));
     end = λ db left.
-        subst (λ (z : Sizes). OrStep v u key c (λ x w. Recovers db z away (j.view l).may_leave x w))
+        subst (λ (z : Sizes). OrSteps v u calls (λ x w. Recovers db z away (j.view l).may_leave x w))
         same
         (leaves.end db left);
   }
@@ -72,9 +72,9 @@ module _ {S H : Type 0} (g : Ghosts S) (j : ShelfGhosts H) (r : Held S) (h k : H
 pub unstepped_same : {S H : Type 0} (g : Ghosts S) (j : ShelfGhosts H) (r : Held S) (h : H)
     (away : Image) (ts : List Intent) (bytes : List (List ℕ)) (v u : World)
     (at : IsCarriedOut g j r h away ts bytes v u)
-    (lawful : IsLawful (j.view h)) (key : List ℕ) (c : Command) → CrashLeavesOnly g r at.tables
-    → LeavesStep g j r r h h away v u key c
-unstepped_same g j r h away ts bytes v u at lawful key c only = record {
+    (lawful : IsLawful (j.view h)) (calls : List Call) → CrashLeavesOnly g r at.tables
+    → LeavesSteps g j r r h h away v u calls
+unstepped_same g j r h away ts bytes v u at lawful calls only = record {
   within = leads_in g j r h away at.tables ts bytes v u only
       ((j.view h).left_since (j.view h).moment)
       (λ x left. at.leads x (lawful.only_now x left));
@@ -87,6 +87,12 @@ pub ok_then : {X E : Type 0} (P Q : X → Type 0) → ((x : X) → P x → Q x) 
     → IfOk r P → IfOk r Q
 ok_then P Q f (Ok x) p = f x p
 ok_then P Q f (Err e) p = tt
+
+-- both are answered at Ok
+pub ok_and : {X E : Type 0} (P Q : X → Type 0) (r : Result X E) → IfOk r P → IfOk r Q
+    → IfOk r (λ x. P x × Q x)
+ok_and P Q (Ok x) p q = (p, q)
+ok_and P Q (Err e) p q = tt
 
 -- two reads, one after the other
 pub nothing_then : {S : Type 0} (g : Ghosts S) (r mid s : Held S) → LeavesNothingNew g r mid

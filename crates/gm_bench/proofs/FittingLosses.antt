@@ -1,5 +1,5 @@
 -- What the rules decide of a loss fits the tables, and how many intents are pending after it.
-use Rattle.gm_bench.proofs.Common.{◌≡◌, inl, inr, ℕ, ◌+◌, ◌≤◌, ◌<◌, ◌^◌, true, refl, arith, subst, List, [], ◌∷◌, length, string_bytes, IfOk, Result, Ok, Err, length-append, cases_Bool, length-map, Sizes, Lost, CommandFits, is_key, words_of, Intent, Meta, Component, AreReadable, Records, IsState, members, Tables, Fact, Refusal, seen_in, after, metas, Changed, Decides, few_members, AreRecordsOf, settled, with_pending, FitsTables, IsFree, count_of, Judged, Kept, Refused, New, Loss, remaining, writes_to, IsFitting, CanBeCommitted, CanCommit, IsRedirected}
+use Rattle.gm_bench.proofs.Common.{◌≡◌, inl, inr, ℕ, ◌+◌, ◌≤◌, ◌<◌, ◌^◌, true, refl, arith, subst, List, [], ◌∷◌, map, sym, length, string_bytes, Further, AreFresh, IfOk, Result, Ok, Err, length-append, cases_Bool, length-map, Sizes, Lost, CommandFits, is_key, words_of, Intent, Meta, Component, AreReadable, Records, IsState, members, Tables, Fact, Refusal, seen_in, after, metas, Changed, Decides, few_members, AreRecordsOf, settled, with_pending, FitsTables, IsFree, count_of, Judged, Kept, Refused, New, Loss, remaining, writes_to, IsFitting, CanBeCommitted, CanCommit, IsRedirected}
 use Rattle.gm_bench.proofs.FewBytes.{few_pending}
 use Rattle.gm_bench.proofs.FittingPlans.{fits_with, made_fits}
 use Rattle.gm_bench.proofs.PlannedAlone.{planned_state}
@@ -7,7 +7,8 @@ use Rattle.gm_bench.proofs.PlannedAlone.{planned_state}
 pub loss_fits : (s : Records) (facts : List Fact) (n p : List ℕ) (r : Result Changed Refusal)
     (t : Tables) → Decides s (seen_in facts) (Lost n (p ∷ [])) r → AreRecordsOf t s
     → CommandFits (Lost n (p ∷ []))
-    → IfOk r (λ ch. IsFitting ch (words_of (Lost n (p ∷ []))) t × (length ch.intents ≤ 17))
+    → IfOk r (λ ch. IsFitting ch (words_of (Lost n (p ∷ []))) t × (length ch.intents ≤ 17)
+    × (ch.further ≡ []))
 loss_fits s facts n p (Ok ch) t makes are fits =
     let left : IsState (after (seen_in facts) (Lost n (p ∷ [])) s) =
     subst IsState makes.records
@@ -20,6 +21,7 @@ loss_fits s facts n p (Ok ch) t makes are fits =
     few_members (after (seen_in facts) (Lost n (p ∷ [])) s) left n in (
       made_fits s facts (Lost n (p ∷ [])) ch t are fits makes tt,
       rw makes.intents (omega (arith, as_many, few)),
+      makes.once,
     )
 loss_fits s facts n p (Err r) t least are fits = tt
 
@@ -44,16 +46,17 @@ pub can_commit : (s : Records) (size : Sizes) (ts : List Intent) (bytes : List (
     (n p words key : List ℕ) (ch : Changed) (t : Tables) (j : Judged)
     → IsRedirected s size ts bytes n p words ch j
     → is_key key ≡ true → IsFree t key → count_of t < 100000 → IsFitting ch words (settled t)
-    → length ch.intents ≤ 17 → CanBeCommitted key ts t j
-can_commit s size ts bytes n p words key ch t (Kept number reply) is key_ok free room fits more = tt
-can_commit s size ts bytes n p words key ch t (Refused r) is key_ok free room fits more = tt
-can_commit s size ts bytes n p words key ch t (New loss) l key_ok free room fits more =
+    → length ch.intents ≤ 17 → ch.further ≡ [] → CanBeCommitted key ts t j
+can_commit s size ts bytes n p words key ch t (Kept number reply) is key_ok free room fits more once = tt
+can_commit s size ts bytes n p words key ch t (Refused r) is key_ok free room fits more once = tt
+can_commit s size ts bytes n p words key ch t (New loss) l key_ok free room fits more once =
     let left : length (remaining p l.next ts) ≤ length ts = fewer_remain p l.next ts in
     let all = length-append (remaining p l.next ts) ch.intents in
     record {
       key_ok = key_ok;
       free = free;
       room = room;
+      once = rw l.change once;
       change = rw (l.change, l.words_are) fits;
       few = rw l.intents (omega (arith, left, more, all));
     }
@@ -72,3 +75,5 @@ loss_fits_tables key ts t loss can low state readable =
     (omega (arith, few, low))
     (few_pending loss.after state loss.bytes.items loss.intents.items readable) (refl, refl)
     can.key_ok can.free
+    (subst (λ (fs : List Further). AreFresh (settled t) (key ∷ [])
+    (map (λ (f : Further). string_bytes f.key) fs)) (sym can.once) tt)

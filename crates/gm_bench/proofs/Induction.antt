@@ -1,14 +1,15 @@
 -- The induction over a schedule.
-use Rattle.gm_bench.proofs.Common.{◌≡◌, ◌∙◌, ◌⊎◌, inl, inr, ℕ, Bool, suc, ◌+◌, List, [], ◌∷◌, length, refl, sym, ap, subst, arith, Ghosts, Trees, Held, Image, Sizes, Intent, Reply, World, present, Step, Call, stored, no_tables, Accepted, Answer, Work, AcceptAnswers, IsLeft, LeavesRun, LookDoes, LookLeaves, RunAnswers, whole, Leads, KeepsClaims, AllLead, Recovers, IsCarriedOut, IsShelfOf, LeavesOnly, Progress, Stands, IsHandedIn, phase_carried, phase_of, Waiting, LeavesStep, OrStep, WaitsFor, Phase, Event, Accept_returned, Accept_stopped, Apply_returned, Apply_stopped, Settle_returned, Settle_stopped, Hand_in_returned, Hand_in_stopped, Settle_waiting_returned, Settle_waiting_stopped, Run_returned, Run_stopped, Look_returned, Look_stopped, Open_returned, Open_stopped, Now, none, skips, keeps, Moved, Without_returned, Without_stopped, Without_carrying, Entry, Handed_in, Without, IsButMoved, IsStepWithout, Reached, ArePending, LeavesCommit, IsMove, IsLeftIn, IsStop, IsRunStop, IsDoneOver, IsOpenOver, IsSoFar, after_answer, after_hand_in, after_run, with_media, Happens, IsStart, Runs, AtRest, OnTheWay, Stopped, Headline, Within}
+use Rattle.gm_bench.proofs.Common.{◌≡◌, ◌∙◌, ◌⊎◌, inl, inr, ℕ, Bool, suc, ◌+◌, List, [], ◌∷◌, length, refl, sym, ap, subst, arith, Ghosts, Trees, Held, Image, Sizes, Intent, World, present, Step, Steps, Call, stored, no_tables, Accepted, Answer, Work, AcceptAnswers, IsLeft, LeavesRun, LookDoes, LookLeaves, RunAnswers, whole, Leads, KeepsClaims, AllLead, Recovers, IsCarriedOut, IsShelfOf, LeavesOnly, Progress, Stands, AreHandedIn, phase_carried, phase_of, Waiting, LeavesSteps, OrSteps, WaitsFor, count_in, Phase, Event, Accept_returned, Accept_stopped, Apply_returned, Apply_stopped, Settle_returned, Settle_stopped, Hand_in_returned, Hand_in_stopped, Settle_waiting_returned, Settle_waiting_stopped, Run_returned, Run_stopped, Look_returned, Look_stopped, Open_returned, Open_stopped, Now, none, skips, keeps, Moved, Without_returned, Without_stopped, Without_carrying, Entry, Handed_in, Without, IsButMoved, IsStepWithout, Reached, ArePending, LeavesCommit, IsMove, IsLeftIn, IsStop, IsRunStop, IsDoneOver, IsOpenOver, IsSoFar, after_answer, after_hand_in, after_run, with_media, Happens, IsStart, Runs, AtRest, OnTheWay, Stopped, Headline, Within}
 use Rattle.gm_shelf.specs.declared.shelf.Shelf.{Ghosts as ShelfGhosts}
 use Rattle.gm_bench.specs.declared.answer.Accepted.TheVariants.{Done, Repeated, Refused}
 use Rattle.gm_bench.specs.declared.answer.Answer.TheVariants as run
 use Rattle.gm_bench.specs.declared.phase.Progress.TheVariants as far
 use Rattle.gm_bench.specs.declared.phase.Waiting.TheVariants as waiting
 use Rattle.gm_bench.proofs.Looks.{looked_at}
-use Rattle.gm_bench.proofs.AnswersCounted.{answered_many, counts, fewer, step_present}
+use Rattle.gm_rules.proofs.SeriesTurns.{steps_answered, steps_of_run}
+use Rattle.gm_bench.proofs.AnswersCounted.{answered_many, counts, fewer, steps_present}
 use Rattle.gm_bench.proofs.CarriedOut.{at_of, carried_out, done_at_rest}
-use Rattle.gm_bench.proofs.MovedWorlds.{with_there, stays, moved_from, one_step, moved_reached, moved_last, last_pending, moved_leads, moved_keeps, reached_sizes, there_of, moved_present}
+use Rattle.gm_bench.proofs.MovedWorlds.{all_steps, with_there, stays, moved_from, one_step, moved_reached, moved_last, last_pending, moved_leads, moved_keeps, reached_sizes, there_of, moved_present}
 use Rattle.gm_bench.proofs.NewWorlds.{new_records, new_sound}
 use Rattle.gm_bench.proofs.WorldAtRest.{rest_leads, rest_claims}
 
@@ -142,41 +143,42 @@ module _ {S H : Type 0} (g : Ghosts S) (j : ShelfGhosts H) (all : Sizes) where
       } in
       subst (λ (p : Phase (Held S) H). AtPhase m (with_media p s k)) (sym is) (way, after.shelf)
 
-  answered : (call : Call) (a : Accepted) (r s : Held S) (h k : H) (waiting : Waiting)
+  answered : (calls : List Call) (a : Accepted) (r s : Held S) (h k : H) (waiting : Waiting)
       (m n : Now (Held S) H) → IsDoneOver m.phase r h waiting → At m
-      → n ≡ after_answer m call a s k
-      → AcceptAnswers g j waiting r s h k call.key call.command a → At n
-  answered call (Done i reply work) r s h k waiting m n over was is clause =
+      → n ≡ after_answer m calls a s k
+      → AcceptAnswers g j waiting r s h k calls a → At n
+  answered calls (Done i count reply work) r s h k waiting m n over was is clause =
       let o = reached_by m r h waiting over was in
-      let it = clause m.away o.intents o.bytes o.before o.world o.at o.waits in
-      let step : Step o.world call.key call.command it.world reply = it.calls.3 in
+      let it = (clause m.away o.intents o.bytes o.before o.world o.at o.waits).1 in
+      let steps = all_steps o.world it.world calls
+      (steps_of_run o.world it.world calls it.answers i reply it.run it.done) in
       subst At (sym is) (record {
         world = it.world;
         before = o.world;
-        reached = (o.world, o.reached, one_step o.world it.world call reply step);
-        last = (o.reached, one_step o.world it.world call reply step);
+        reached = (o.world, o.reached, steps);
+        last = (o.reached, steps);
         at = it.at;
         told = keeps o.told;
       })
-  answered call (Repeated i reply) r s h k waiting m n over was is clause =
+  answered calls (Repeated i reply) r s h k waiting m n over was is clause =
       let o = reached_by m r h waiting over was in
       subst At (sym is) (undone m r s h k waiting over was
       (clause m.away o.intents o.bytes o.before o.world o.at o.waits).1)
-  answered call (Refused why) r s h k waiting m n over was is clause =
+  answered calls (Refused why) r s h k waiting m n over was is clause =
       let o = reached_by m r h waiting over was in
       subst At (sym is) (undone m r s h k waiting over was
       (clause m.away o.intents o.bytes o.before o.world o.at o.waits).1)
 
   -- a commit that was stopped stands, or not
-  left_in : (call : Call) (waiting : Waiting) (r : Held S) (h : H) (db : Trees) (l : H)
+  left_in : (calls : List Call) (waiting : Waiting) (r : Held S) (h : H) (db : Trees) (l : H)
       (away : Image) (acc ack after : List Entry) (was : IsReached waiting r h away acc ack)
-      → IsLeftIn db (Handed_in call) acc after → j.size l ≡ j.size h
-      → (j.view l).may_leave (j.view l).seen → OrStep was.before was.world call.key call.command
+      → IsLeftIn db (Handed_in calls) acc after → j.size l ≡ j.size h
+      → (j.view l).may_leave (j.view l).seen → OrSteps was.before was.world calls
       (λ x w. Recovers db (j.size h) away (j.view l).may_leave x w)
       → Stopped g j all db l away after ack
-  left_in call waiting r h db l away acc ack after was left same there either =
+  left_in calls waiting r h db l away acc ack after was (some, left) same there either =
       let u : World = was.world in
-      let many : length u.answered ≡ length acc = answered_many all acc u was.reached in
+      let many : length u.answered ≡ count_in acc = answered_many all acc u was.reached in
       let resized : (x w : World) → Recovers db (j.size h) away (j.view l).may_leave x w
       → Recovers db (j.size l) away (j.view l).may_leave x w =
       λ x w. subst (λ (z : Sizes). Recovers db z away (j.view l).may_leave x w) (sym same) in
@@ -195,39 +197,38 @@ module _ {S H : Type 0} (g : Ghosts S) (j : ShelfGhosts H) (all : Sizes) where
               }
               | inr r ↦
                   let n = counts db (j.size h) away (j.view l).may_leave (j.view l).seen u r.0
-                  (length acc) there r.3 before.1 in
-                  let m : length r.0.answered ≡ suc (length u.answered) = ap length r.2.answered in
-                  absurd (omega (arith, n, m, many))
+                  (count_in acc) there r.2 before.1 in
+                  let m = steps_answered u r.0 calls r.1 in
+                  absurd (omega (arith, some, n, m, many))
             ])
         | inr stands ↦
             subst (λ (list : List Entry). Stopped g j all db l away list ack) (sym stands.0)
             (elim either [
               | inl r ↦ (let n = counts db (j.size h) away (j.view l).may_leave (j.view l).seen
-                  was.before u (length acc + 1) there r stands.1 in
-                  absurd (omega (arith, n, many)))
+                  was.before u (count_in (Handed_in calls ∷ acc)) there r stands.1 in
+                  absurd (omega (arith, some, n, many)))
               | inr r ↦ record {
                 world = r.0;
                 before = u;
-                reached = (u, was.reached, one_step u r.0 call r.1 r.2);
-                last = inr (was.reached, one_step u r.0 call r.1 r.2);
-                sizes = step_present u r.0 call.key call.command r.1 r.2
-                    ∙ (was.at.sizes ∙ sym same);
-                recovers = resized u r.0 r.3;
+                reached = (u, was.reached, all_steps u r.0 calls r.1);
+                last = inr (was.reached, all_steps u r.0 calls r.1);
+                sizes = steps_present u r.0 calls r.1 ∙ (was.at.sizes ∙ sym same);
+                recovers = resized u r.0 r.2;
                 told = skips was.told;
               }
             ])
       ]
 
-  pub accept_stopped : (call : Call) (waiting : Waiting) (r s : Held S) (h k : H) (db : Trees) (l :
-      H)
+  pub accept_stopped : (calls : List Call) (waiting : Waiting) (r s : Held S) (h k : H)
+      (db : Trees) (l : H)
       (away : Image) (acc ack after : List Entry) (was : IsReached waiting r h away acc ack)
-      → IsLeftIn db (Handed_in call) acc after
-      → LeavesStep g j r s h k away was.before was.world call.key call.command
+      → IsLeftIn db (Handed_in calls) acc after
+      → LeavesSteps g j r s h k away was.before was.world calls
       → IsStop g j r s h k db l → Stopped g j all db l away after ack
-  accept_stopped call waiting r s h k db l away acc ack after was left clause stop =
+  accept_stopped calls waiting r s h k db l away acc ack after was left clause stop =
       let v : World = was.before in
       let u : World = was.world in
-      left_in call waiting r h db l away acc ack after was left stop.0 stop.1 (elim stop.2 [
+      left_in calls waiting r h db l away acc ack after was left stop.0 stop.1 (elim stop.2 [
         | inl within
             ↦ inl (fewer db (j.size h) away ((j.view k).left_since (j.view h).moment)
             (j.view l).may_leave v u (clause.within db within.0) within.1)
@@ -237,43 +238,43 @@ module _ {S H : Type 0} (g : Ghosts S) (j : ShelfGhosts H) (all : Sizes) where
           | inr r ↦ inr (
             r.0,
             r.1,
-            r.2,
-            fewer db (j.size h) away (j.view k).may_leave (j.view l).may_leave u r.0 r.3 end.1,
+            fewer db (j.size h) away (j.view k).may_leave (j.view l).may_leave u r.0 r.2 end.1,
           )
         ]
       ])
 
-  -- the settling of the last command was stopped, after the next was found repeated or refused: the
-  -- commit of that doesn't stand
-  pub settling_stopped : (call : Call) (waiting : Waiting) (r mid s : Held S) (h k end : H)
+  -- the settling of the last commit was stopped, after the first of the next calls was found
+  -- repeated or refused: the commit of these doesn't stand
+  pub settling_stopped : (calls : List Call) (waiting : Waiting) (r mid s : Held S) (h k end : H)
       (db : Trees) (l : H) (away : Image) (acc ack after : List Entry)
-      (was : IsReached waiting r h away acc ack) → IsLeftIn db (Handed_in call) acc after
+      (was : IsReached waiting r h away acc ack) → IsLeftIn db (Handed_in calls) acc after
       → j.size k ≡ j.size h → LeavesOnly g j mid s k end away was.before was.world
       → IsStop g j mid s k end db l → Stopped g j all db l away after ack
-  settling_stopped call waiting r mid s h k end db l away acc ack after was left sizes only stop =
+  settling_stopped calls waiting r mid s h k end db l away acc ack after was left sizes only stop =
       let same : j.size l ≡ j.size h = stop.0 ∙ sizes in
       let led_on = subst
       (λ (z : Sizes). Recovers db z away (j.view l).may_leave was.before was.world)
       same (led mid s k end db l away was.before was.world only stop) in
-      left_in call waiting r h db l away acc ack after was left same stop.1 (inl led_on)
+      left_in calls waiting r h db l away acc ack after was left same stop.1 (inl led_on)
 
-  -- a run was stopped within its accepting, or after that
-  pub run_stopped : (call : Call) (waiting : Waiting) (r s : Held S) (h k : H) (db : Trees) (l : H)
-      (away : Image) (acc ack after : List Entry) (was : IsReached waiting r h away acc ack)
-      → IsLeftIn db (Handed_in call) acc after
-      → (it : LeavesRun g j r s h k away was.before was.world call.key call.command)
-      → IsRunStop g j r s h k away was.before was.world call it db l
+  -- calls were stopped within their accepting, or after that
+  pub run_stopped : (calls : List Call) (waiting : Waiting) (r s : Held S) (h k : H) (db : Trees)
+      (l : H) (away : Image) (acc ack after : List Entry)
+      (was : IsReached waiting r h away acc ack)
+      → IsLeftIn db (Handed_in calls) acc after
+      → (it : LeavesRun g j r s h k away was.before was.world calls)
+      → IsRunStop g j r s h k away was.before was.world calls it db l
       → Stopped g j all db l away after ack
-  run_stopped call waiting r s h k db l away acc ack after was left it (inl stop) =
-      accept_stopped call waiting r it.registry h it.shelf db l away acc ack after was left
+  run_stopped calls waiting r s h k db l away acc ack after was left it (inl stop) =
+      accept_stopped calls waiting r it.registry h it.shelf db l away acc ack after was left
       it.accepting stop
-  run_stopped call waiting r s h k db l away acc ack after was left it
-      (inr (w, reply, step, leaves, stop)) =
+  run_stopped calls waiting r s h k db l away acc ack after was left it
+      (inr (w, steps, leaves, stop)) =
       let same : j.size l ≡ j.size h = stop.0 ∙ it.sizes in
       let led_on = subst (λ (z : Sizes). Recovers db z away (j.view l).may_leave was.world w) same
       (led it.registry s it.shelf k db l away was.world w leaves stop) in
-      left_in call waiting r h db l away acc ack after was left same stop.1
-      (inr (w, reply, step, led_on))
+      left_in calls waiting r h db l away acc ack after was left same stop.1
+      (inr (w, steps, led_on))
 
   run_answered : (call : Call) (a : Answer) (r s : Held S) (h k : H) (m n : Now (Held S) H)
       → AtRest g j all r h m.away m.accepted m.acknowledged → n ≡ after_run m call a s k
@@ -369,52 +370,52 @@ module _ {S H : Type 0} (g : Ghosts S) (j : ShelfGhosts H) (all : Sizes) where
   stands_still m before (far.Pending work) r s h k q is was so same stands = absurd so
   stands_still m before far.Failed r s h k q is was so same stands = absurd so
 
-  -- it stands for the world of the step, if that was done
-  stands_next : (m : Now (Held S) H) (call : Call) (reply : Reply) (u w : World) (p : Progress)
+  -- it stands for the world of the steps, if they were done
+  stands_next : (m : Now (Held S) H) (calls : List Call) (u w : World) (p : Progress)
       (s : Held S) (k : H) (q : Phase (Held S) H) → Reached all m.accepted u
-      → Step u call.key call.command w reply → Within m.acknowledged m.accepted
+      → Steps u calls w → Within m.acknowledged m.accepted
       → IsSoFar q p s k → Stands g j p s k m.away u w
-      → Headline g j all q m.away (Handed_in call ∷ m.accepted) (Handed_in call ∷ m.acknowledged)
-  stands_next m call reply u w far.Ready s k q reached step told so stands =
-      subst (λ (x : Phase (Held S) H). Headline g j all x m.away (Handed_in call ∷ m.accepted)
-      (Handed_in call ∷ m.acknowledged)) (sym so) (record {
+      → Headline g j all q m.away (Handed_in calls ∷ m.accepted) (Handed_in calls ∷ m.acknowledged)
+  stands_next m calls u w far.Ready s k q reached steps told so stands =
+      subst (λ (x : Phase (Held S) H). Headline g j all x m.away (Handed_in calls ∷ m.accepted)
+      (Handed_in calls ∷ m.acknowledged)) (sym so) (record {
         world = w;
-        reached = (u, reached, one_step u w call reply step);
+        reached = (u, reached, all_steps u w calls steps);
         at = stands.1;
         told = keeps told;
       })
-  stands_next m call reply u w (far.Applied work) s k q reached step told so stands =
-      subst (λ (x : Phase (Held S) H). Headline g j all x m.away (Handed_in call ∷ m.accepted)
-      (Handed_in call ∷ m.acknowledged)) (sym so) (
+  stands_next m calls u w (far.Applied work) s k q reached steps told so stands =
+      subst (λ (x : Phase (Held S) H). Headline g j all x m.away (Handed_in calls ∷ m.accepted)
+      (Handed_in calls ∷ m.acknowledged)) (sym so) (
         record {
           world = w;
           before = u;
-          reached = (u, reached, one_step u w call reply step);
-          last = (reached, one_step u w call reply step);
+          reached = (u, reached, all_steps u w calls steps);
+          last = (reached, all_steps u w calls steps);
           at = stands.0;
           told = keeps told;
         },
         stands.1,
       )
-  stands_next m call reply u w (far.Pending work) s k q reached step told so stands = absurd so
-  stands_next m call reply u w far.Failed s k q reached step told so stands = absurd so
+  stands_next m calls u w (far.Pending work) s k q reached steps told so stands = absurd so
+  stands_next m calls u w far.Failed s k q reached steps told so stands = absurd so
 
-  handed_in : (m n : Now (Held S) H) (call : Call) (a : Answer) (before p : Progress)
+  handed_in : (m n : Now (Held S) H) (calls : List Call) (a : Answer) (before p : Progress)
       (r s : Held S) (h k : H) (q : Phase (Held S) H) → IsSoFar m.phase before r h → At m
-      → IsSoFar q p s k → n ≡ after_hand_in m call a q
+      → IsSoFar q p s k → n ≡ after_hand_in m calls a q
       → phase_of p ≡ phase_carried (phase_of before) a
       → ((away : Image) (v u : World) → Stands g j before r h away v u
-      → IsHandedIn g j p r s h k away v u call.key call.command a) → At n
-  handed_in m n call (run.Done i reply) before p r s h k q is was so now phase clause =
+      → AreHandedIn g j p r s h k away v u calls a) → At n
+  handed_in m n calls (run.Done i reply) before p r s h k q is was so now phase clause =
       let it = stood m before r h is was in
       let done = clause m.away it.was.before it.was.world it.stands in
-      subst At (sym now) (stands_next m call reply it.was.world done.0 p s k q it.was.reached
-      done.1.3 it.was.told so done.3)
-  handed_in m n call (run.Repeated i reply) before p r s h k q is was so now phase clause =
+      subst At (sym now) (stands_next m calls it.was.world done.0 p s k q it.was.reached
+      (steps_of_run it.was.world done.0 calls done.1 i reply done.2 done.3) it.was.told so done.5)
+  handed_in m n calls (run.Repeated i reply) before p r s h k q is was so now phase clause =
       let it = stood m before r h is was in
       subst At (sym now) (stands_still m before p r s h k q is was so phase
       (clause m.away it.was.before it.was.world it.stands).2)
-  handed_in m n call (run.Refused why) before p r s h k q is was so now phase clause =
+  handed_in m n calls (run.Refused why) before p r s h k q is was so now phase clause =
       let it = stood m before r h is was in
       subst At (sym now) (stands_still m before p r s h k q is was so phase
       (clause m.away it.was.before it.was.world it.stands).2)
@@ -493,10 +494,10 @@ module _ {S H : Type 0} (g : Ghosts S) (j : ShelfGhosts H) (all : Sizes) where
       → IsLeftIn db (Without call p gone) acc after
       → LeavesCommit g j o s h away was.before was.world call p gone
       → IsStop g j o s h h db l → Stopped g j all db l away after ack
-  without_stopped call p gone start o s h db l away acc ack after was left clause stop =
+  without_stopped call p gone start o s h db l away acc ack after was (some, left) clause stop =
       let u : World = was.before in
       let w : World = was.world in
-      let many : length w.answered ≡ length acc = answered_many all acc w was.reached in
+      let many : length w.answered ≡ count_in acc = answered_many all acc w was.reached in
       let either : Recovers db (j.size h) away (j.view l).may_leave u w
       ⊎ ((v : World) × IsStepWithout w call p gone v × (present v ≡ j.size h)
       × Recovers db (j.size h) away (j.view l).may_leave u v) = elim stop.2 [
@@ -532,7 +533,7 @@ module _ {S H : Type 0} (g : Ghosts S) (j : ShelfGhosts H) (all : Sizes) where
               }
               | inr r ↦
                   let n = counts db (j.size h) away (j.view l).may_leave (j.view l).seen u r.0
-                  (length acc) stop.1 r.3 before.1 in
+                  (count_in acc) stop.1 r.3 before.1 in
                   let m : length r.0.answered ≡ suc (length w.answered) =
                   ap length (r.1.answered ∙ r.1.step.answered) in
                   absurd (omega (arith, n, m, many))
@@ -541,7 +542,7 @@ module _ {S H : Type 0} (g : Ghosts S) (j : ShelfGhosts H) (all : Sizes) where
             subst (λ (list : List Entry). Stopped g j all db l away list ack) (sym stands.0)
             (elim either [
               | inl r ↦ (let n = counts db (j.size h) away (j.view l).may_leave (j.view l).seen u w
-                  (length acc + 1) stop.1 r stands.1 in absurd (omega (arith, n, many)))
+                  (count_in acc + 1) stop.1 r stands.1 in absurd (omega (arith, n, many)))
               | inr r ↦ record {
                 world = r.0;
                 before = u;
@@ -596,11 +597,11 @@ module _ {S H : Type 0} (g : Ghosts S) (j : ShelfGhosts H) (all : Sizes) where
 
   next : (m : Now (Held S) H) (e : Event (Held S) H) (n : Now (Held S) H) → At m
       → Happens g j all m e n → At n
-  next m (Accept_returned call a s k) n was (r, h, waiting, over, is, clause) =
-      answered call a r s h k waiting m n over was is clause
-  next m (Accept_stopped call s k db l) n was (r, h, waiting, over, after, is, left, clause, stop) =
+  next m (Accept_returned calls a s k) n was (r, h, waiting, over, is, clause) =
+      answered calls a r s h k waiting m n over was is clause
+  next m (Accept_stopped calls s k db l) n was (r, h, waiting, over, after, is, left, clause, stop) =
       let o = reached_by m r h waiting over was in
-      subst At (sym is) (accept_stopped call waiting r s h k db l m.away m.accepted m.acknowledged
+      subst At (sym is) (accept_stopped calls waiting r s h k db l m.away m.accepted m.acknowledged
       after o left (clause m.away o.intents o.bytes o.before o.world o.at o.waits) stop)
   next m (Apply_returned k) n was (r, h, work, phase, is, clause) =
       let o : OnTheWay g j all r h m.away work m.accepted m.acknowledged =
@@ -638,11 +639,11 @@ module _ {S H : Type 0} (g : Ghosts S) (j : ShelfGhosts H) (all : Sizes) where
       subst At (sym is) (stopped r s h h db l m.away o.0.before o.0.world m.accepted m.acknowledged
       o.0.reached (inr (last_pending all m.accepted o.0.before o.0.world o.0.last))
       o.0.at.at.sizes o.0.told (clause m.away o.0.before o.0.world o.0.at o.1) stop)
-  next m (Hand_in_returned call a p s k) n was (r, h, before, is, q, so, now, phase, clause) =
-      handed_in m n call a before p r s h k q is was so now phase clause
-  next m (Hand_in_stopped call s k db l) n was (r, h, before, is, after, now, left, leaves, stop) =
+  next m (Hand_in_returned calls a p s k) n was (r, h, before, is, q, so, now, phase, clause) =
+      handed_in m n calls a before p r s h k q is was so now phase clause
+  next m (Hand_in_stopped calls s k db l) n was (r, h, before, is, after, now, left, leaves, stop) =
       let it = stood m before r h is was in
-      subst At (sym now) (run_stopped call it.waiting r s h k db l m.away m.accepted
+      subst At (sym now) (run_stopped calls it.waiting r s h k db l m.away m.accepted
       m.acknowledged after it.was left (leaves m.away it.was.before it.was.world it.stands)
       (stop m.away it.was.before it.was.world it.stands))
   next m (Settle_waiting_returned s k) n was (r, h, before, is, now, clause) =
@@ -663,7 +664,7 @@ module _ {S H : Type 0} (g : Ghosts S) (j : ShelfGhosts H) (all : Sizes) where
   next m (Run_stopped call s k db l) n was (r, h, phase, after, is, left, leaves, stop) =
       let rest : AtRest g j all r h m.away m.accepted m.acknowledged =
       subst (AtPhase m) phase was in
-      subst At (sym is) (run_stopped call waiting.Nothing r s h k db l m.away m.accepted
+      subst At (sym is) (run_stopped (call ∷ []) waiting.Nothing r s h k db l m.away m.accepted
       m.acknowledged after (at_rest r h m.away m.accepted m.acknowledged rest) left
       (leaves m.away rest.world rest.at) (stop m.away rest.world rest.at))
   next m (Look_returned s k) n was (r, h, over, is, does) =

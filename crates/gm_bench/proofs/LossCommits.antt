@@ -1,6 +1,6 @@
 -- The commit of an opening without a provider: the world that was left, or the step by the loss,
 -- whatever image goes with it.
-use Rattle.gm_bench.proofs.Common.{◌≡◌, ◌∙◌, inl, inr, ℕ, ◌+◌, ◌&&◌, true, false, List, [], ◌∷◌, map, length, None, Some, refl, sym, ap, subst, subst₂, arith, append-nil, if◌then◌else◌, IsSome, string_bytes, IsPermutation, cases_Bool, length-map, IsPermutation-refl, IsPermutation-cons, length_permutation, Ghosts, Held, Image, Sizes, same_label, IsLawful, Command, Lost, Intent, Reply, Mirror, Component, words_of, IsOf, names, is_place, mirror_of, Records, members, name, Tables, CommandRow, HoldRecords, answer_row, intent_rows, patch_rows, Has, World, Answered, present, some_there, find_one, found, not_both, provider_at, same_from, same_is, place_from, placed_by, member, reply_to, intents_of, Changed, Makes, changed_by, Plan, CanAnswer, HasPlan, answer, seen_of, every_plan, with_accepted, with_pending, command_row, settled, count_of, Call, HoldState, CrashLeavesOnly, DiskKept, HasTables, MayLeave, change_held, change_intents, change_commands, change_patches, whole, Leads, KeepsClaims, AllLead, Loss, writes_to, dropped, left_to_lay, pending_after, as_left, next_of, HasNext, IsFound, IsStepWithout, LeavesCommit, IsLost, IsNewLoss, loss_call}
+use Rattle.gm_bench.proofs.Common.{Further, with_command, with_further, ◌≡◌, ◌∙◌, inl, inr, ℕ, ◌+◌, ◌&&◌, true, false, List, [], ◌∷◌, map, length, None, Some, refl, sym, ap, subst, subst₂, arith, append-nil, if◌then◌else◌, IsSome, string_bytes, IsPermutation, cases_Bool, length-map, IsPermutation-refl, IsPermutation-cons, length_permutation, Ghosts, Held, Image, Sizes, same_label, IsLawful, Command, Lost, Intent, Reply, Mirror, Component, words_of, IsOf, names, is_place, mirror_of, Records, members, name, Tables, CommandRow, HoldRecords, answer_row, intent_rows, patch_rows, Has, World, Answered, present, some_there, find_one, found, not_both, provider_at, same_from, same_is, place_from, placed_by, member, reply_to, intents_of, Changed, Makes, changed_by, Plan, CanAnswer, HasPlan, answer, seen_of, every_plan, with_accepted, with_pending, command_row, settled, count_of, Call, HoldState, CrashLeavesOnly, DiskKept, HasTables, MayLeave, change_held, change_intents, change_commands, change_patches, whole, Leads, KeepsClaims, AllLead, Loss, writes_to, dropped, left_to_lay, pending_after, as_left, next_of, HasNext, IsFound, IsStepWithout, LeavesCommit, IsLost, IsNewLoss, loss_call}
 use Rattle.gm_shelf.specs.declared.shelf.Shelf.{Ghosts as ShelfGhosts}
 use Rattle.gm_bench.proofs.CallAnswers.{as_many as as_many_of}
 use Rattle.gm_bench.proofs.Found.{lead}
@@ -81,7 +81,10 @@ module _ (w v : World) (key : List ℕ) (c : Command) (ch : Changed) (ts : List 
   keys : IsPermutation (map answer_row v.answered) after.commands
   keys =
       subst (λ (rows : List CommandRow). IsPermutation (map answer_row v.answered) rows)
-      (sym (change_commands change key (words_of c) (settled t)))
+      (sym (change_commands change key (words_of c) (settled t)
+      ∙ ap (λ (fs : List Further). (with_further fs (length t.commands + 2) (words_of c)
+      (with_command (command_row key (length t.commands + 1) (words_of c) ch.reply)
+      (settled t))).commands) makes.once))
       (subst (λ (a : List Answered). IsPermutation (map answer_row a)
       (command_row key (length t.commands + 1) (words_of c) ch.reply ∷ t.commands))
       (sym plan.step.answered)

@@ -36,6 +36,7 @@ module _ (s : Records) (x y : Seen) (n p : List ℕ)
     intents = makes.intents;
     bytes = makes.bytes;
     reply = makes.reply;
+    once = makes.once;
   }
   loss_alike (Err r) least = record {
     listed = least.listed;

@@ -1,5 +1,6 @@
 -- Worlds whose providers went away or came back.
-use Rattle.gm_bench.proofs.Common.{◌≡◌, ◌∙◌, ◌⊎◌, inl, inr, ℕ, zero, suc, Bool, true, false, Option, Some, None, List, [], ◌∷◌, refl, sym, subst, if◌then◌else◌, is_some, Image, Sizes, Intent, Reply, Tables, World, present, Step, Call, AreAmong, Leads, KeepsClaims, ComesOf, IsBetween, PendingSince, Entry, Handed_in, Without, IsButMoved, IsStepTo, IsStepWithout, Reached, IsLastStep, ArePending}
+use Rattle.gm_bench.proofs.Common.{◌≡◌, ◌∙◌, ◌⊎◌, inl, inr, ℕ, zero, suc, Bool, true, false, Option, Some, None, List, [], ◌∷◌, refl, sym, subst, if◌then◌else◌, is_some, Image, Sizes, Intent, Reply, Tables, World, present, Step, Call, AreAmong, Leads, KeepsClaims, ComesOf, IsBetween, PendingSince, Entry, Handed_in, Without, IsButMoved, AreStepsTo, Steps, IsStepWithout, Reached, IsLastStep, ArePending}
+use Rattle.gm_rules.proofs.SeriesTurns.{steps_sizes}
 
 -- the world in which these providers are there
 abbrev pub with_there : World → (List ℕ → Bool) → World
@@ -28,16 +29,18 @@ moved_from u w there m = record {
   size = m.size;
 }
 
-pub one_step : (u w : World) (call : Call) (r : Reply) → Step u call.key call.command w r
-    → IsStepTo u call w
-one_step u w call r step = record { stepped = w; reply = r; step = step; moved = stays w }
+pub all_steps : (u w : World) (calls : List Call) → Steps u calls w → AreStepsTo u calls w
+all_steps u w calls steps = record { stepped = w; steps = steps; moved = stays w }
 
-moved_step : (u w : World) (call : Call) (there : List ℕ → Bool) → IsStepTo u call w
-    → IsStepTo u call (with_there w there)
-moved_step u w call there s = record {
+pub one_step : (u w : World) (call : Call) (r : Reply) → Step u call.key call.command w r
+    → AreStepsTo u (call ∷ []) w
+one_step u w call r step = all_steps u w (call ∷ []) (w, r, step, refl)
+
+moved_step : (u w : World) (calls : List Call) (there : List ℕ → Bool) → AreStepsTo u calls w
+    → AreStepsTo u calls (with_there w there)
+moved_step u w calls there s = record {
   stepped = s.stepped;
-  reply = s.reply;
-  step = s.step;
+  steps = s.steps;
   moved = moved_on s.stepped w there s.moved;
 }
 
@@ -65,24 +68,24 @@ moved_reached all [] w there new =
       answered = new.answered;
       sizes = new.sizes;
     }
-moved_reached all (Handed_in call ∷ older) w there (u, reached, s) =
-    (u, reached, moved_step u w call there s)
+moved_reached all (Handed_in calls ∷ older) w there (u, reached, s) =
+    (u, reached, moved_step u w calls there s)
 moved_reached all (Without call p gone ∷ older) w there (u, reached, s) =
     (u, reached, moved_without u w call p gone there s)
 
 pub moved_last : (all : Sizes) (acc : List Entry) (u w : World) (there : List ℕ → Bool)
     → ArePending all acc u w → ArePending all acc u (with_there w there)
 moved_last all [] u w there last = absurd last
-moved_last all (Handed_in call ∷ older) u w there (reached, s) =
-    (reached, moved_step u w call there s)
+moved_last all (Handed_in calls ∷ older) u w there (reached, s) =
+    (reached, moved_step u w calls there s)
 moved_last all (Without call p gone ∷ older) u w there (v, reached, s, first) =
     (v, reached, moved_without v w call p gone there s, first)
 
--- a command that was handed in is the first that is pending
+-- commands that were handed in are the first that are pending
 pub last_pending : (all : Sizes) (acc : List Entry) (u w : World) → IsLastStep all acc u w
     → ArePending all acc u w
 last_pending all [] u w last = absurd last
-last_pending all (Handed_in call ∷ older) u w last = last
+last_pending all (Handed_in calls ∷ older) u w last = last
 last_pending all (Without call p gone ∷ older) u w last = absurd last
 
 pub moved_leads : (t : Tables) (ts : List Intent) (bytes : List (List ℕ)) (x : Image) (w : World)
@@ -113,11 +116,11 @@ pending_moved : (n : ℕ) (begun : Bool) (u w : World) (ts : List Intent) (there
     → PendingSince n begun u w ts → PendingSince n begun u (with_there w there) ts
 pending_moved zero false u w ts there p = p
 pending_moved zero true u w ts there p = record {
-  key = p.key;
   command = p.command;
+  keys = p.keys;
+  series = p.series;
   stepped = p.stepped;
-  reply = p.reply;
-  step = p.step;
+  turns = p.turns;
   sound = p.sound;
   state = p.state;
   answered = p.answered;
@@ -186,8 +189,8 @@ reached_sizes all [] w new = new.sizes
 reached_sizes all (Without call p gone ∷ older) w (u, reached, s) =
     let same : s.stepped.size ≡ u.size = λ i q. s.step.sizes q i in
     s.size ∙ (same ∙ reached_sizes all older u reached)
-reached_sizes all (Handed_in call ∷ older) w (u, reached, s) =
-    let same : s.stepped.size ≡ u.size = λ i q. s.step.sizes q i in
+reached_sizes all (Handed_in calls ∷ older) w (u, reached, s) =
+    let same : s.stepped.size ≡ u.size = λ i q. steps_sizes u s.stepped calls s.steps q i in
     s.moved.size ∙ (same ∙ reached_sizes all older u reached)
 
 seen_through : (o full : Option ℕ) → (o ≡ None) ⊎ (o ≡ full)

@@ -58,13 +58,27 @@ carried_open p q (Repeated n reply) other is failed =
 carried_open p q (Refused why) other is failed =
     other (is_failed p (sym is ∙ ap phase_of failed))
 
+-- it is accepted, and this is pending
+pub record WasDone (it : Accepted) (p : Progress) : Type 0 where
+  pub number : ℕ
+  pub count : ℕ
+  pub reply : Reply
+  pub work : Work
+  pub is : it ≡ accepted.Done number count reply work
+  pub progress : p ≡ Pending work
+
 -- what is pending was accepted
 pub was_done : (before : Progress) (it : Accepted) (p : Progress)
     → (phase_of before ≡ phase.Pending → ⊥) → p ≡ progress_after before it
-    → phase_of p ≡ phase.Pending
-    → (n : ℕ) × (reply : Reply) × (work : Work) × (it ≡ accepted.Done n reply work)
-    × (p ≡ Pending work)
-was_done before (accepted.Done n reply work) p none is pending = (n, reply, work, refl, is)
+    → phase_of p ≡ phase.Pending → WasDone it p
+was_done before (accepted.Done n count reply work) p none is pending = record {
+  number = n;
+  count = count;
+  reply = reply;
+  work = work;
+  is = refl;
+  progress = is;
+}
 was_done before (accepted.Repeated n reply) p none is pending =
     absurd (none (sym (ap phase_of is) ∙ pending))
 was_done before (accepted.Refused why) p none is pending =
@@ -74,7 +88,7 @@ was_done before (accepted.Refused why) p none is pending =
 pub work_hand : (size : Sizes) (before : Progress) (it : Accepted) (work : Work)
     → (phase_of before ≡ phase.Pending → ⊥) → progress_after before it ≡ Pending work
     → IsWorkAtHand size it → AreAtHand size work.intents.items
-work_hand size before (accepted.Done n reply mine) work none is handy =
+work_hand size before (accepted.Done n count reply mine) work none is handy =
     subst (λ (w : Work). AreAtHand size w.intents.items) (pending_work mine work is) handy
 work_hand size before (accepted.Repeated n reply) work none is handy =
     absurd (none (ap phase_of is))

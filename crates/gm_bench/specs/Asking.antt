@@ -29,7 +29,7 @@ use Rattle.gm_bench.specs.declared.plan.Planned.{Planned}
 use Rattle.gm_bench.specs.Accepting.{left_by}
 use Rattle.gm_bench.specs.Calls.{OnlyLooks, OnlyLooksUp, TellsStore}
 use Rattle.gm_bench.specs.Faults.{IsOfCall}
-use Rattle.gm_bench.specs.Planning.{IsDecided, IsKnown, IsPartKnown, IsPlanAtHand, IsPlanFitting, IsToDecide}
+use Rattle.gm_bench.specs.Planning.{IsDecided, IsKnown, IsPartKnown, IsPlanAtHand, IsPlanFitting, IsPlannedOnce, IsToDecide}
 use Rattle.gm_bench.specs.Recovering.{IsCarriedOut}
 use Rattle.gm_bench.specs.ShelfFacts.{IsHonestToAdopt, TellSizes}
 
@@ -125,6 +125,9 @@ pub record DecidesPart (part : Records) (count : ℕ) (facts : List Fact) (c : C
   pub fits : IfOk result (λ r. (t : Tables) (s : Records) → AreRecordsOf t s
       → IsPartToDecide part (seen_in facts) c s → count ≡ length s.mirrors
       → CommandFits c → IsItself (seen_in facts) c → IsPlanFitting c t r)
+  -- nothing is planned under a further key
+  pub once : IfOk result (λ r. IsState part → length part.mirrors ≤ count → count ≤ 64
+      → IsPlannedOnce r)
   -- F6 comes only of a part that is no state
   pub readable : IsErrOf result Unreadable → CommandFits c → IsState part
       → length part.mirrors ≤ count → count ≤ 64 → IsItself (seen_in facts) c → ⊥
@@ -140,10 +143,10 @@ pub record AsksRules {S H : Type 0} (g : StoreGhosts S) (h : ShelfGhosts H) (old
       (λ r. (away : Image) (ts : List Intent) (bytes : List (List ℕ)) (v u : World)
       → (at : IsCarriedOut g h old.registry old.shelf away ts bytes v u)
       → IsDecided u c r × HasTables g new.registry at.tables)
-  -- of rows that say a state, what is then to be carried out is at hand
+  -- of rows that say a state, what is then to be carried out is at hand, and of one key
   pub at_hand : DiskKept g new.registry → IfOk result (λ r. (t : Tables) (s : Records)
       → HasTables g old.registry t → AreRecordsOf t s → HasTables g new.registry t
-      × (CommandFits c → IsPlanAtHand (h.size old.shelf) r))
+      × (CommandFits c → IsPlanAtHand (h.size old.shelf) r) × IsPlannedOnce r)
   -- and the change fits the tables
   pub fits : DiskKept g new.registry → IfOk result (λ r. (t : Tables) (s : Records)
       → HasTables g old.registry t → AreRecordsOf t s → CommandFits c

@@ -15,21 +15,21 @@ use Rattle.gm_state.specs.Records.{members}
 use Rattle.gm_state.specs.Lookups.{component_of, metadata, dirty_metadata}
 use Rattle.gm_state.specs.Intents.{IsOf, is_dirty_of, is_last, is_place}
 use Rattle.gm_state.specs.World.{World, Sound}
-use Rattle.gm_changes.specs.After.{intents_of}
 use Rattle.gm_rules.specs.Step.{Step}
+use Rattle.gm_rules.specs.Series.{AreIntentsOf, InTurn, IsSeries, Keyed}
 use Rattle.gm_bench.specs.Losing.{pending_after}
 
--- one command took u to w, and these are its intents
-pub record IsOfStep (u w : World) (ts : List Intent) : Type 0 where
-  pub key : List ℕ
+-- one command took u to w, or several advances in turn, and these are its intents or theirs
+pub record IsOfSteps (u w : World) (ts : List Intent) : Type 0 where
   pub command : Command
+  pub keys : List Keyed
+  pub series : IsSeries command keys
   pub stepped : World
-  pub reply : Reply
-  pub step : Step u key command stepped reply
+  pub turns : InTurn u command keys stepped
   pub sound : Sound stepped
   pub state : w.state ≡ stepped.state
   pub answered : w.answered ≡ stepped.answered
-  pub intents : ts ≡ intents_of command u.state stepped.state
+  pub intents : AreIntentsOf u command stepped ts
 
 -- the loss of one provider took v to w, and left these of the intents that were pending
 pub record IsOfLoss (v w : World) (before ts : List Intent) : Type 0 where
@@ -46,11 +46,11 @@ pub record IsOfLoss (v w : World) (before ts : List Intent) : Type 0 where
   pub answered : w.answered ≡ stepped.answered
   pub intents : ts ≡ pending_after provider next before (members stepped.state.components name)
 
--- The intents are pending since u: those of the command that took u on, or none if all was settled
+-- The intents are pending since u: those of the commands that took u on, or none if all was settled
 -- since; and what so many losses then left of them.
 abbrev pub PendingSince : ℕ → Bool → World → World → List Intent → Type 0
 PendingSince zero false u w ts = ts ≡ []
-PendingSince zero true u w ts = IsOfStep u w ts
+PendingSince zero true u w ts = IsOfSteps u w ts
 PendingSince (suc n) begun u w ts =
     (v : World) × (before : List Intent) × PendingSince n begun u v before × IsOfLoss v w before ts
 

@@ -1,6 +1,6 @@
 -- What a call leaves of the media and of the phase of a bench, and which faults it tells, beside
 -- what is particular to it.
-use Rattle.std.specs.Prelude.{◌≡◌, ◌≤◌, ◌<◌, ℕ, List, Result, IfOk, IfErr, OnOk, OnErr, IsErrOf}
+use Rattle.std.specs.Prelude.{◌≡◌, ◌≤◌, ◌<◌, ◌+◌, ℕ, List, ◌∷◌, length, Result, IfOk, IfErr, OnOk, OnErr, IsErrOf}
 use Rattle.sqlite_trees.specs.declared.store.Store.{Ghosts as StoreGhosts}
 use Rattle.sqlite.specs.Held.{Held, state}
 use Rattle.gm_metadata.specs.Images.{Image, Sizes}
@@ -20,6 +20,7 @@ use Rattle.gm_bench.specs.declared.fault.BenchFault.{BenchFault}
 use Rattle.gm_bench.specs.declared.fault.BenchFault.TheVariants.{Absent, Closed, Disk, Store, Unreadable}
 use Rattle.gm_bench.specs.declared.answer.Accepted.{Accepted}
 use Rattle.gm_bench.specs.declared.answer.Answer.{Answer}
+use Rattle.gm_bench.specs.declared.answer.SeriesAnswer.{SeriesAnswer}
 use Rattle.gm_bench.specs.declared.answer.Work.{Work}
 use Rattle.gm_bench.specs.declared.media.Media.{Media}
 use Rattle.gm_bench.specs.declared.phase.Progress.TheVariants.{Failed, Pending}
@@ -29,6 +30,7 @@ use Rattle.gm_bench.specs.declared.phase.Waiting.TheVariants.{Nothing}
 use Rattle.gm_bench.specs.Accepting.{HasNothingElse}
 use Rattle.gm_bench.specs.Phases.{IsUndone, waiting_of}
 use Rattle.gm_bench.specs.Planning.{IsWorkAtHand}
+use Rattle.gm_bench.specs.Keys.{AreReadUnderAll}
 use Rattle.gm_bench.specs.Presence.{AreAtHand}
 
 -- Disk is reported only if the shelf's count of failures rose.
@@ -50,6 +52,10 @@ HasNothingPending = HasNothingElse Nothing
 -- of the mirror and of the command
 abbrev pub most_rows : ℕ
 most_rows = 18
+
+-- the same for a command that is accepted under so many further keys
+abbrev pub rows_for : ℕ → ℕ
+rows_for further = most_rows + further
 
 -- A registry has tables after a call, and its store forgot no fault, and has the limit on steps
 -- that it had.
@@ -159,13 +165,23 @@ module _ {S H T : Type 0} (s : StoreGhosts S) (h : ShelfGhosts H) (old new : Med
       → (t : Tables) (r : Records) → HasTables s old.registry t → AreRecordsOf t r
       → count_of t ≤ 100000 → AreWrittenUnder key t → IsHonestToAdopt h old.shelf c → ⊥
 
+  -- the same of a command under several keys
+  abbrev pub TellsUnreadableUnder : List (List ℕ) → Command → Type 0
+  TellsUnreadableUnder keys c = DiskKept s new.registry → IsErrOf result Unreadable
+      → (t : Tables) (r : Records) → HasTables s old.registry t → AreRecordsOf t r
+      → AreReadUnderAll keys t → IsHonestToAdopt h old.shelf c → ⊥
+
   -- Store only if the store failed, wherever the rows say a state, the tables are such, and the
-  -- store can number the rows of a command
-  abbrev pub TellsStoreWhere : (Tables → Type 0) → Command → Type 0
-  TellsStoreWhere AreSuch c = DiskKept s new.registry → IsErrOf result Store
+  -- store can number the rows of a command under so many further keys
+  abbrev pub TellsStoreUnder : ℕ → (Tables → Type 0) → Command → Type 0
+  TellsStoreUnder further AreSuch c = DiskKept s new.registry → IsErrOf result Store
       → (t : Tables) (r : Records) → HasTables s old.registry t → AreRecordsOf t r → AreSuch t
-      → HasRoom most_rows (seen s old.registry) → IsHonestToAdopt h old.shelf c
+      → HasRoom (rows_for further) (seen s old.registry) → IsHonestToAdopt h old.shelf c
       → StoreFailed s old.registry new.registry
+
+  -- the same of a command under one key
+  abbrev pub TellsStoreWhere : (Tables → Type 0) → Command → Type 0
+  TellsStoreWhere = TellsStoreUnder 0
 
   -- the same wherever nothing is pending
   abbrev pub TellsStoreOf : Command → Type 0
@@ -191,12 +207,12 @@ module _ {S H T : Type 0} (s : StoreGhosts S) (h : ShelfGhosts H) (old new : Med
 -- rows can't be read, F2 only if the store failed wherever the tables are such; what is then to be
 -- carried out is at hand; if it fails the tables stay, and else the registry goes on.
 pub record TellsByRows {S H : Type 0} (s : StoreGhosts S) (h : ShelfGhosts H) (old new : Media S H)
-    (result : Result Accepted BenchFault) (key : List ℕ) (c : Command) (AreSuch : Tables → Type 0)
-    : Type 0 where
-  pub readable : TellsUnreadable s h old new result key c
+    (result : Result Accepted BenchFault) (key : List ℕ) (more : List (List ℕ)) (c : Command)
+    (AreSuch : Tables → Type 0) : Type 0 where
+  pub readable : TellsUnreadableUnder s h old new result (key ∷ more) c
   pub at_hand : TellsAtHand s h old new result (IsWorkAtHand (h.size old.shelf))
   pub refused : RefusesCall s h old new result
-  pub store : TellsStoreWhere s h old new result AreSuch c
+  pub store : TellsStoreUnder s h old new result (length more) AreSuch c
   pub goes_on : StaysRegistry s h old new result
 
 -- The shelf is kept; and if the disk kept what was written to the registry until now, it did so
@@ -262,6 +278,18 @@ pub record TellsOfRows {S H : Type 0} (s : StoreGhosts S) (h : ShelfGhosts H) (o
       (HasNothingElse (waiting_of (progress_of old))) c
   pub goes_on : StaysRegistry s h (media_of old) (media_of new) result
 
+-- The same of a command under further keys as well.
+pub record TellsOfKeys {S H T : Type 0} (s : StoreGhosts S) (h : ShelfGhosts H) (old new : Bench S H)
+    (result : Result T BenchFault) (key : List ℕ) (more : List (List ℕ)) (c : Command) : Type 0
+  where
+    pub readable : TellsUnreadableUnder s h (media_of old) (media_of new) result (key ∷ more) c
+    pub at_hand : TellsAtHand s h (media_of old) (media_of new) result (λ a. (work : Work)
+        → progress_of new ≡ Pending work → AreAtHand (h.size (shelf_of old)) work.intents.items)
+    pub refused : RefusesCall s h (media_of old) (media_of new) result
+    pub store : TellsStoreUnder s h (media_of old) (media_of new) result (length more)
+        (HasNothingElse (waiting_of (progress_of old))) c
+    pub goes_on : StaysRegistry s h (media_of old) (media_of new) result
+
 -- A command that is handed in and carried out, by the registry's rows and the shelf's sizes alone:
 -- `Store` comes only if the store failed, wherever nothing is pending but what this call settles.
 pub record HandsInByRows {S H : Type 0} (s : StoreGhosts S) (h : ShelfGhosts H)
@@ -272,6 +300,15 @@ pub record HandsInByRows {S H : Type 0} (s : StoreGhosts S) (h : ShelfGhosts H)
       (HasNothingElse (waiting_of (progress_of old))) c
   pub goes_on : StaysRegistry s h (media_of old) (media_of new) result
 
+-- The same of a command under further keys as well.
+pub record HandsInByKeys {S H T : Type 0} (s : StoreGhosts S) (h : ShelfGhosts H)
+    (old new : Bench S H) (result : Result T BenchFault) (key : List ℕ) (more : List (List ℕ))
+    (c : Command) : Type 0 where
+  pub readable : TellsUnreadableUnder s h (media_of old) (media_of new) result (key ∷ more) c
+  pub store : TellsStoreUnder s h (media_of old) (media_of new) result (length more)
+      (HasNothingElse (waiting_of (progress_of old))) c
+  pub goes_on : StaysRegistry s h (media_of old) (media_of new) result
+
 -- A command that is run: if an answer says that nothing was done it only read the registry, and
 -- if the registry's rows say a state it reports the disk only if that failed.
 pub record RunsOnce {S H : Type 0} (s : StoreGhosts S) (h : ShelfGhosts H) (old new : Bench S H)
@@ -279,6 +316,16 @@ pub record RunsOnce {S H : Type 0} (s : StoreGhosts S) (h : ShelfGhosts H) (old 
   pub keep : Keep s h (registry_of old) (registry_of new) (shelf_of old) (shelf_of new)
   pub undone : DiskKept s (registry_of new)
       → IfOk result (λ a. IsUndone a → Reads s (registry_of old) (registry_of new))
+  pub disk : DiskKept s (registry_of new) → (t : Tables) (r : Records)
+      → HasTables s (registry_of old) t → AreRecordsOf t r
+      → TellsDisk h (shelf_of old) (shelf_of new) result
+
+-- The same of commands that are handed in under keys in turn.
+pub record RunsSeries {S H : Type 0} (s : StoreGhosts S) (h : ShelfGhosts H) (old new : Bench S H)
+    (result : Result SeriesAnswer BenchFault) : Type 0 where
+  pub keep : Keep s h (registry_of old) (registry_of new) (shelf_of old) (shelf_of new)
+  pub undone : DiskKept s (registry_of new)
+      → IfOk result (λ a. IsUndone a.answer → Reads s (registry_of old) (registry_of new))
   pub disk : DiskKept s (registry_of new) → (t : Tables) (r : Records)
       → HasTables s (registry_of old) t → AreRecordsOf t r
       → TellsDisk h (shelf_of old) (shelf_of new) result

@@ -1,6 +1,6 @@
 -- What a command comes to under its key, before anything is written: the abstract bench repeats or
 -- refuses it, or it can be accepted.
-use Rattle.std.specs.Prelude.{◌≡◌, ◌<◌, ℕ, true, List, Result, IfOk, IsErrOf}
+use Rattle.std.specs.Prelude.{◌≡◌, ◌≤◌, ℕ, true, List, [], ◌∷◌, length, Result, IfOk, IsErrOf}
 use Rattle.std.specs.String.{string_bytes}
 use Rattle.sqlite_trees.specs.declared.store.Store.{Ghosts as StoreGhosts}
 use Rattle.gm_metadata.specs.Images.{Image, Sizes}
@@ -15,9 +15,9 @@ use Rattle.gm_rules.specs.AbstractCalls as run
 use Rattle.gm_rules.specs.Step.{CanAnswer}
 use Rattle.gm_rows.specs.ReadableTables.{AreRecordsOf}
 use Rattle.gm_registry.specs.Registry.{DiskKept, HasTables}
-use Rattle.gm_registry.specs.Replies.{IsFree, count_of}
+use Rattle.gm_registry.specs.Replies.{IsFree}
 use Rattle.gm_bench.specs.declared.fault.BenchFault.{BenchFault}
-use Rattle.gm_bench.specs.declared.fault.BenchFault.TheVariants.{Unreadable}
+use Rattle.gm_bench.specs.declared.fault.BenchFault.TheVariants.{Disk, Unreadable}
 use Rattle.gm_bench.specs.declared.found_key.FoundKey.TheVariants.{Free}
 use Rattle.gm_bench.specs.declared.judgement.Judgement.{Judgement}
 use Rattle.gm_bench.specs.declared.judgement.Judgement.TheVariants.{New, Refused, Repeated}
@@ -30,6 +30,8 @@ use Rattle.gm_bench.specs.FoundKeys.{AreReadUnder, TellsKey}
 use Rattle.gm_bench.specs.Planning.{IsFitting, IsPlanned}
 use Rattle.gm_bench.specs.Presence.{AreAtHand}
 use Rattle.gm_bench.specs.Recovering.{IsCarriedOut}
+use Rattle.gm_bench.specs.Keys.{AreReadUnderAll, MayBeTaken, further_keys}
+use Rattle.gm_bench.specs.Series.{AreBegun, AreJudged, IsUnplanned, calls_in, further_in}
 use Rattle.gm_bench.specs.ShelfFacts.{IsHonestToAdopt}
 
 -- what the abstract bench answers without a step, or what is planned of a command that it does
@@ -41,18 +43,23 @@ IsJudgement u key c (Refused why) =
 IsJudgement u key c (New words planned) =
     IsPlanned u c planned × CanAnswer u key c × (string_bytes words ≡ words_of c)
 
--- What is planned of a command can be written under its key, and is then at hand.
+-- What is planned of a command can be written under its keys, and is then at hand.
 pub record CanBeWritten (size : Sizes) (key : List ℕ) (t : Tables) (planned : Planned) : Type 0
   where
     pub key_ok : is_key key ≡ true
     pub free : IsFree t key
-    pub room : count_of t < 100000
+    pub further : MayBeTaken key (further_keys planned.change) t
     pub at_hand : AreAtHand size planned.work.intents.items
 
 -- so can what is planned, if anything is
 abbrev pub CanBeAccepted : Sizes → List ℕ → Tables → Judgement → Type 0
 CanBeAccepted size key t (New words planned) = CanBeWritten size key t planned
 CanBeAccepted size key t _ = Unit {0}
+
+-- it is planned under no further key
+abbrev pub IsJudgedOnce : Judgement → Type 0
+IsJudgedOnce (New words planned) = planned.change.further ≡ []
+IsJudgedOnce _ = Unit {0}
 
 -- and it fits the tables
 abbrev pub IsJudgedToFit : Tables → Judgement → Type 0
@@ -82,11 +89,39 @@ pub record JudgesCommand {S H : Type 0} (s : StoreGhosts S) (h : ShelfGhosts H)
   -- of rows that say a state, what is planned can be written and carried out
   pub plans : DiskKept s new.registry → IfOk result (λ j. (t : Tables) (r : Records)
       → HasTables s old.registry t → AreRecordsOf t r → AreSuch t
-      → CanBeAccepted (h.size old.shelf) key t j
+      → CanBeAccepted (h.size old.shelf) key t j × IsJudgedOnce j
       × (IsHonestToAdopt h old.shelf c → IsJudgedToFit t j) × HasTables s new.registry t)
   -- F6 comes only if the rows can't be read
   pub readable : DiskKept s new.registry → IsErrOf result Unreadable
       → (t : Tables) (r : Records) → HasTables s old.registry t → AreRecordsOf t r → AreSuch t
       → AreReadUnder key t → IsHonestToAdopt h old.shelf c → ⊥
+  -- it only looks at both media
+  pub looks : OnlyLooks s h old new result
+
+-- A judgement of a command under its first key is taken further: under as many more keys as may be
+-- taken, while the command can go on.
+pub record TakesFurther {S H : Type 0} (s : StoreGhosts S) (h : ShelfGhosts H)
+    (old new : Media S H) (result : Result Judgement BenchFault) (jd : Judgement) (key : List ℕ)
+    (more : List (List ℕ)) (c : Command) : Type 0 where
+  -- of a bench that stands for u it is what the abstract bench answers to all
+  pub answers : h.honest old.shelf → DiskKept s new.registry → IfOk result
+      (λ j. (away : Image) (ts : List Intent) (bytes : List (List ℕ)) (v u : World)
+      → (at : IsCarriedOut s h old.registry old.shelf away ts bytes v u) → IsJudgement u key c jd
+      → AreJudged u key c j × AreBegun c (key ∷ more) (calls_in key c j)
+      × HasTables s new.registry at.tables)
+  -- of rows that say a state, what is planned can be written and carried out
+  pub plans : DiskKept s new.registry → IfOk result (λ j. (t : Tables) (r : Records)
+      → HasTables s old.registry t → AreRecordsOf t r → IsJudgedOnce jd
+      → CanBeAccepted (h.size old.shelf) key t jd
+      → CanBeAccepted (h.size old.shelf) key t j × (IsJudgedToFit t jd → IsJudgedToFit t j)
+      × (further_in j ≤ length more) × HasTables s new.registry t)
+  -- F6 comes only if the rows can't be read
+  pub readable : DiskKept s new.registry → IsErrOf result Unreadable
+      → (t : Tables) (r : Records) → HasTables s old.registry t → AreRecordsOf t r
+      → AreReadUnderAll more t → ⊥
+  -- no disk fault comes
+  pub disk : IsErrOf result Disk → ⊥
+  -- if nothing is planned, nothing is read
+  pub unread : IfOk result (λ j. IsUnplanned j → new ≡ old)
   -- it only looks at both media
   pub looks : OnlyLooks s h old new result

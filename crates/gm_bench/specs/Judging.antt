@@ -51,7 +51,8 @@ pub record RulesOnLoss {E : Type 0} (s : Records) (size : Sizes) (c : Command)
   -- the change fits the tables of the records
   pub fits : IfOk result (λ r. (t : Tables) (n p : List ℕ) → AreRecordsOf t s → CommandFits c
       → c ≡ Lost n (p ∷ [])
-      → IfOk r (λ ch. IsFitting ch (words_of c) t × (length ch.intents ≤ 17)))
+      → IfOk r (λ ch. IsFitting ch (words_of c) t × (length ch.intents ≤ 17)
+      × (ch.further ≡ [])))
 
 -- the loss of a component is judged, under a key that is free, of all records and what is pending
 pub record JudgesComponent (s : Records) (size : Sizes) (ts : List Intent) (bytes : List (List ℕ))

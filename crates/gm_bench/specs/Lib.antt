@@ -12,6 +12,7 @@ pub mod HandedIn
 pub mod Judgements
 pub mod Judging
 pub mod KeptCommands
+pub mod Keys
 pub mod Leading
 pub mod Losing
 pub mod Opened
@@ -22,6 +23,7 @@ pub mod Presence
 pub mod Recovering
 pub mod Running
 pub mod Schedule
+pub mod Series
 pub mod ShelfFacts
 pub mod Standing
 pub mod Stepping

@@ -6,16 +6,16 @@ use Rattle.sqlite.specs.Held.{Held}
 use Rattle.gm_metadata.specs.Images.{Image}
 use Rattle.gm_shelf.specs.declared.shelf.Shelf.{Ghosts as ShelfGhosts}
 use Rattle.gm_commands.specs.declared.command.Command.{Command}
-use Rattle.gm_state.specs.declared.intents.Reply.{Reply}
 use Rattle.gm_state.specs.World.{World, present}
-use Rattle.gm_rules.specs.Step.{Step}
+use Rattle.gm_rules.specs.AbstractCalls.{Call}
+use Rattle.gm_rules.specs.Series.{Steps}
 use Rattle.gm_registry.specs.Opens.{IsStored}
 use Rattle.gm_registry.specs.Registry.{stored, HasTables, MayLeave}
 use Rattle.gm_bench.specs.declared.answer.Accepted.{Accepted}
 use Rattle.gm_bench.specs.declared.answer.Answer.{Answer}
 use Rattle.gm_bench.specs.declared.answer.Work.{Work}
 use Rattle.gm_bench.specs.Recovering.{Recovers, IsAt, IsAtWork, IsCarriedOut, IsShelfOf, LeavesOnly}
-use Rattle.gm_bench.specs.Accepting.{LeavesStep, IsAnswered, WaitsFor}
+use Rattle.gm_bench.specs.Accepting.{AreAnswered, LeavesSteps, WaitsFor, one_call}
 use Rattle.gm_bench.specs.declared.phase.Waiting.{Waiting}
 use Rattle.gm_bench.specs.Running.{IsRun}
 use Rattle.gm_state.specs.declared.intents.Intent.{Intent}
@@ -24,20 +24,19 @@ use Rattle.gm_state.specs.Rows.{Tables}
 -- What stands between a call's start, with the registry r and the shelf h, and its end, with s and
 -- k.
 module _ {S H : Type 0} (g : Ghosts S) (j : ShelfGhosts H) where
-  -- a command that is handed in at rest, or after one that was carried out: what a stop leaves, and
-  -- what it is answered
-  abbrev pub AcceptLeaves : Waiting → Held S → Held S → H → H → List ℕ → Command → Type 0
-  AcceptLeaves waiting r s h k key c =
+  -- calls that are handed in at rest, or after a command that was carried out: what a stop leaves,
+  -- and what they are answered
+  abbrev pub AcceptLeaves : Waiting → Held S → Held S → H → H → List Call → Type 0
+  AcceptLeaves waiting r s h k calls =
       (away : Image) (ts : List Intent) (bytes : List (List ℕ)) (v u : World)
       → IsCarriedOut g j r h away ts bytes v u → WaitsFor waiting ts bytes
-      → LeavesStep g j r s h k away v u key c
+      → LeavesSteps g j r s h k away v u calls
 
-  abbrev pub AcceptAnswers : Waiting → Held S → Held S → H → H → List ℕ → Command → Accepted
-      → Type 0
-  AcceptAnswers waiting r s h k key c a =
+  abbrev pub AcceptAnswers : Waiting → Held S → Held S → H → H → List Call → Accepted → Type 0
+  AcceptAnswers waiting r s h k calls a =
       (away : Image) (ts : List Intent) (bytes : List (List ℕ)) (v u : World)
       → IsCarriedOut g j r h away ts bytes v u → WaitsFor waiting ts bytes
-      → IsAnswered g j s k away ts bytes v u key c a
+      → AreAnswered g j s k away ts bytes v u calls a
 
   -- work that is carried out: what a stop leaves, and that the shelf is then the world's
   abbrev pub ApplyLeaves : Held S → H → H → Work → Type 0
@@ -67,26 +66,25 @@ module _ {S H : Type 0} (g : Ghosts S) (j : ShelfGhosts H) where
   abbrev pub HasWork : Held S → H → Image → World → World → Type 0
   HasWork r h away u w = (work : Work) × IsAtWork g j r h away work u w
 
-  -- A stop within a command that is carried out: it is accepted at some point, until which what led
-  -- from v to u still does, or the world becomes that of the command's step. At that point the step
-  -- is pending, or nothing more is done; and what is left after it leads to the step.
-  pub record LeavesRun (r s : Held S) (h k : H) (away : Image) (v u : World) (key : List ℕ)
-      (c : Command) : Type 0 where
+  -- A stop within calls that are carried out: they are accepted at some point, until which what led
+  -- from v to u still does, or the world becomes that of their steps. At that point the steps are
+  -- pending, or nothing more is done; and what is left after it leads to them.
+  pub record LeavesRun (r s : Held S) (h k : H) (away : Image) (v u : World) (calls : List Call)
+      : Type 0 where
     pub registry : Held S
     pub shelf : H
     pub sizes : j.size shelf ≡ j.size h
-    pub accepting : LeavesStep g j r registry h shelf away v u key c
+    pub accepting : LeavesSteps g j r registry h shelf away v u calls
     pub carrying :
         ((registry ≡ s) × (shelf ≡ k))
-        ⊎ ((w : World) × (reply : Reply) × Step u key c w reply
-        × HasWork registry shelf away u w
+        ⊎ ((w : World) × Steps u calls w × HasWork registry shelf away u w
         × LeavesOnly g j registry s shelf k away u w)
 
   -- a command that is handed in at rest, carried out and settled
   abbrev pub RunLeaves : Held S → Held S → H → H → List ℕ → Command → Type 0
   RunLeaves r s h k key c =
       (away : Image) (u : World) → IsAt g j r h away [] [] u u
-      → LeavesRun r s h k away u u key c
+      → LeavesRun r s h k away u u (one_call key c)
 
   abbrev pub RunAnswers : Held S → Held S → H → H → List ℕ → Command → Answer → Type 0
   RunAnswers r s h k key c a =

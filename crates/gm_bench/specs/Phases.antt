@@ -1,5 +1,7 @@
 -- How far a bench is with a command, and what it may be asked then.
-use Rattle.std.specs.Prelude.{◌≡◌, ◌⊎◌}
+use Rattle.std.specs.Prelude.{◌≡◌, ◌⊎◌, ℕ, List, length}
+use Rattle.gm_rules.specs.AbstractCalls.{Call}
+use Rattle.gm_bench.specs.declared.answer.SeriesAnswer.{SeriesAnswer}
 use Rattle.gm_bench.specs.declared.answer.Accepted.{Accepted}
 use Rattle.gm_bench.specs.declared.answer.Accepted.TheVariants as accepted
 use Rattle.gm_bench.specs.declared.answer.Answer.{Answer}
@@ -20,13 +22,31 @@ phase_of Failed = phase.Failed
 
 -- what a caller is answered
 abbrev pub answer_of : Accepted → Answer
-answer_of (accepted.Done n reply work) = Done n reply
+answer_of (accepted.Done n count reply work) = Done n reply
 answer_of (accepted.Repeated n reply) = Repeated n reply
 answer_of (accepted.Refused why) = Refused why
 
+-- and how many commands were accepted
+abbrev pub count_of : Accepted → ℕ
+count_of (accepted.Done n count reply work) = count
+count_of (accepted.Repeated n reply) = 0
+count_of (accepted.Refused why) = 0
+
+abbrev pub series_answer_of : Accepted → SeriesAnswer
+series_answer_of a = record { answer = answer_of a; count = count_of a }
+
+-- so many of these calls are done if they are answered so: all, or none
+abbrev pub IsCountBy : List Call → Answer → ℕ → Type 0
+IsCountBy calls (Done n reply) count = length calls ≡ count
+IsCountBy calls (Repeated n reply) count = count ≡ 0
+IsCountBy calls (Refused why) count = count ≡ 0
+
+abbrev pub IsCountOf : List Call → SeriesAnswer → Type 0
+IsCountOf calls a = IsCountBy calls a.answer a.count
+
 -- how far a bench is after an answer that was so far before
 abbrev pub progress_after : Progress → Accepted → Progress
-progress_after before (accepted.Done n reply work) = Pending work
+progress_after before (accepted.Done n count reply work) = Pending work
 progress_after before (accepted.Repeated n reply) = before
 progress_after before (accepted.Refused why) = before
 

@@ -1,10 +1,10 @@
 -- What is decided on a command, and what is carried out once that is accepted.
-use Rattle.std.specs.Prelude.{◌≡◌, ◌≤◌, ℕ, List, length, Result, Ok, Err}
+use Rattle.std.specs.Prelude.{◌≡◌, ◌≤◌, ℕ, List, [], length, Result, Ok, Err}
 use Rattle.gm_commands.specs.declared.command.Command.{Command}
 use Rattle.gm_commands.specs.Commands.{words_of}
 use Rattle.gm_state.specs.Records.{Records, IsState}
 use Rattle.gm_state.specs.Rows.{Tables, joined}
-use Rattle.gm_state.specs.World.{World, ReplyFits}
+use Rattle.gm_state.specs.World.{World}
 use Rattle.gm_refusals.specs.declared.refusals.Refusal.{Refusal}
 use Rattle.gm_changes.specs.Decides.{Changed, Makes, changed_by}
 use Rattle.gm_refusals.specs.Applies.{IsLeast}
@@ -15,6 +15,7 @@ use Rattle.gm_refusals.specs.WorldFacts.{AreFacts, seen_of}
 use Rattle.gm_metadata.specs.Images.{Sizes}
 use Rattle.gm_shelf.specs.declared.shelf.Shelf.{Ghosts as ShelfGhosts}
 use Rattle.gm_rules.specs.Itself.{IsItself}
+use Rattle.gm_registry.specs.Accepting.{RepliesFit}
 use Rattle.gm_registry.specs.FittingChanges.{FitsRecords}
 use Rattle.gm_bench.specs.declared.answer.Accepted.{Accepted}
 use Rattle.gm_bench.specs.declared.answer.Accepted.TheVariants.{Done}
@@ -60,20 +61,25 @@ pub record IsToDecide {H : Type 0} (h : ShelfGhosts H) (shelf : H) (c : Command)
   pub sizes : TellSizes g.facts (h.size shelf)
   pub itself : IsHonestToAdopt h shelf c → IsItself (seen_in g.facts) c
 
+-- what is planned is planned once, under no further key
+abbrev pub IsPlannedOnce : Result Planned Refusal → Type 0
+IsPlannedOnce (Ok planned) = planned.change.further ≡ []
+IsPlannedOnce (Err r) = Unit {0}
+
 -- what is planned is at hand
 abbrev pub IsPlanAtHand : Sizes → Result Planned Refusal → Type 0
 IsPlanAtHand size (Ok planned) = AreAtHand size planned.work.intents.items
 IsPlanAtHand size (Err r) = Unit {0}
 
 -- The records of a change break no rule of these tables, it puts no more than a mirror has, writes
--- at most three times to each and lays at most 64 sectors, and its reply and the words of its
+-- at most three times to each and lays at most 64 sectors, and its replies and the words of its
 -- command are in range.
 pub record IsFitting (ch : Changed) (words : List ℕ) (t : Tables) : Type 0 where
   pub records : FitsRecords ch t
   pub few_put : length ch.components ≤ 16
   pub few_written : length ch.intents ≤ 48
   pub few_laid : length (joined ch.bytes) ≤ 32768
-  pub reply : ReplyFits ch.reply
+  pub replies : RepliesFit ch
   pub short : length words ≤ 70000
 
 -- the same of what is planned for a command
@@ -83,5 +89,5 @@ IsPlanFitting c t (Err r) = Unit {0}
 
 -- what is to be carried out of an accepted command is at hand
 abbrev pub IsWorkAtHand : Sizes → Accepted → Type 0
-IsWorkAtHand size (Done n reply work) = AreAtHand size work.intents.items
+IsWorkAtHand size (Done n count reply work) = AreAtHand size work.intents.items
 IsWorkAtHand size _ = Unit {0}

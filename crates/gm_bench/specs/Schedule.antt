@@ -1,6 +1,6 @@
 -- Schedules: calls that returned or were stopped, providers that went away or came back, and
 -- openings. A stop between two calls is one at the end of the first, or at the start of the second.
-use Rattle.std.specs.Prelude.{◌≡◌, ◌⊎◌, ◌+◌, ◌&&◌, ℕ, false, List, [], ◌∷◌, length}
+use Rattle.std.specs.Prelude.{◌≡◌, ◌⊎◌, ◌+◌, ◌<◌, ◌&&◌, ℕ, false, List, [], ◌∷◌, length}
 use Rattle.sqlite_trees.specs.declared.store.Store.{Ghosts}
 use Rattle.sqlite.specs.Tree.{Trees}
 use Rattle.sqlite.specs.Held.{Held}
@@ -14,6 +14,7 @@ use Rattle.gm_state.specs.declared.intents.Intent.{Intent}
 use Rattle.gm_commands.specs.declared.command.Command.TheVariants.{Lost}
 use Rattle.gm_rules.specs.Step.{Step}
 use Rattle.gm_rules.specs.AbstractCalls.{Call}
+use Rattle.gm_rules.specs.Series.{Steps}
 use Rattle.gm_registry.specs.Opens.{IsStored}
 use Rattle.gm_registry.specs.Registry.{CrashLeaves, stored}
 use Rattle.gm_registry.specs.Replies.{count_of}
@@ -32,12 +33,13 @@ use Rattle.gm_bench.specs.Recovering.{Recovers, IsAt, IsAtWork, IsShelfOf, Leave
 use Rattle.gm_bench.specs.Owed.{AcceptLeaves, AcceptAnswers, ApplyLeaves, ApplyDoes, SettleLeaves, SettleDoes, OpenLeaves, OpenDoes, IsLeft, RunAnswers, RunLeaves, LeavesRun, LookDoes, LookLeaves}
 use Rattle.gm_bench.specs.declared.answer.Answer.{Answer}
 use Rattle.gm_bench.specs.Phases.{phase_carried, phase_of}
-use Rattle.gm_bench.specs.Standing.{IsHandedIn, Stands}
+use Rattle.gm_bench.specs.Standing.{AreHandedIn, Stands}
 
--- How a command was accepted: handed in to a bench at rest or after a command that was carried out;
--- or by an opening without a provider, of which these intents of earlier commands were taken out.
+-- How commands were accepted, by one commit: handed in to a bench at rest or after commands that were
+-- carried out, one or several advances in turn; or one by an opening without a provider, of which
+-- these intents of earlier commands were taken out.
 pub data Entry : Type 0 where
-  Handed_in : (call : Call) → Entry
+  Handed_in : (calls : List Call) → Entry
   Without : (call : Call) (provider : List ℕ) (gone : List Intent) → Entry
 
 -- where the bench is: between two calls, some with work that is pending, or stopped with one store
@@ -52,15 +54,17 @@ pub data Phase (R H : Type 0) : Type 0 where
 -- `Moved` says what the providers hold that the later shelf hasn't; an opening is of a connection
 -- to the store. One without a provider that is stopped before its commit is any opening's stop.
 pub data Event (R H : Type 0) : Type 0 where
-  Accept_returned : (call : Call) (answer : Accepted) (registry : R) (shelf : H) → Event R H
-  Accept_stopped : (call : Call) (registry : R) (shelf : H) (db : Trees) (later : H) → Event R H
+  Accept_returned : (calls : List Call) (answer : Accepted) (registry : R) (shelf : H) → Event R H
+  Accept_stopped : (calls : List Call) (registry : R) (shelf : H) (db : Trees) (later : H)
+      → Event R H
   Apply_returned : (shelf : H) → Event R H
   Apply_stopped : (shelf : H) (db : Trees) (later : H) → Event R H
   Settle_returned : (registry : R) → Event R H
   Settle_stopped : (registry : R) (db : Trees) (later : H) → Event R H
-  Hand_in_returned : (call : Call) (answer : Answer) (progress : Progress) (registry : R)
+  Hand_in_returned : (calls : List Call) (answer : Answer) (progress : Progress) (registry : R)
       (shelf : H) → Event R H
-  Hand_in_stopped : (call : Call) (registry : R) (shelf : H) (db : Trees) (later : H) → Event R H
+  Hand_in_stopped : (calls : List Call) (registry : R) (shelf : H) (db : Trees) (later : H)
+      → Event R H
   Settle_waiting_returned : (registry : R) (shelf : H) → Event R H
   Settle_waiting_stopped : (registry : R) (shelf : H) (db : Trees) (later : H) → Event R H
   Run_returned : (call : Call) (answer : Answer) (registry : R) (shelf : H) → Event R H
@@ -77,6 +81,19 @@ pub data Event (R H : Type 0) : Type 0 where
   Without_carrying : (call : Call) (provider : List ℕ) (gone : List Intent)
       (store middle registry : R) (shelf : H) (db : Trees) (later : H) → Event R H
 
+-- the event hands in one command and no series, if it hands one in
+abbrev pub IsAlone : {R H : Type 0} → Event R H → Type 0
+IsAlone (Accept_returned calls answer r h) = length calls ≡ 1
+IsAlone (Accept_stopped calls r h db later) = length calls ≡ 1
+IsAlone (Hand_in_returned calls answer progress r h) = length calls ≡ 1
+IsAlone (Hand_in_stopped calls r h db later) = length calls ≡ 1
+IsAlone _ = Unit {0}
+
+-- so does each of these
+abbrev pub AreAlone : {R H : Type 0} → List (Event R H) → Type 0
+AreAlone [] = Unit {0}
+AreAlone (e ∷ older) = IsAlone e × AreAlone older
+
 -- the phase, what the providers hold that are away, and the accepted and the acknowledged calls,
 -- the newest first
 pub record Now (R H : Type 0) : Type 0 where
@@ -92,17 +109,17 @@ with_media (Pending r h work) s k = Pending s k work
 with_media (Applied r h work) s k = Applied s k work
 with_media (Down db h) s k = Down db h
 
--- a command that is done is pending, accepted and acknowledged; after another answer nothing has
+-- calls that are done are pending, accepted and acknowledged; after another answer nothing has
 -- changed
-abbrev pub after_answer : {R H : Type 0} → Now R H → Call → Accepted → R → H → Now R H
-after_answer m call (Done n reply work) s k =
+abbrev pub after_answer : {R H : Type 0} → Now R H → List Call → Accepted → R → H → Now R H
+after_answer m calls (Done n count reply work) s k =
     record m {
       phase = Pending s k work;
-      accepted = Handed_in call ∷ m.accepted;
-      acknowledged = Handed_in call ∷ m.acknowledged;
+      accepted = Handed_in calls ∷ m.accepted;
+      acknowledged = Handed_in calls ∷ m.acknowledged;
     }
-after_answer m call (Repeated n reply) s k = record m { phase = with_media m.phase s k }
-after_answer m call (Refused why) s k = record m { phase = with_media m.phase s k }
+after_answer m calls (Repeated n reply) s k = record m { phase = with_media m.phase s k }
+after_answer m calls (Refused why) s k = record m { phase = with_media m.phase s k }
 
 -- a command that is run is accepted and acknowledged if it is done; after another answer nothing
 -- has changed
@@ -110,8 +127,8 @@ abbrev pub after_run : {R H : Type 0} → Now R H → Call → Answer → R → 
 after_run m call (run.Done n reply) s k =
     record m {
       phase = Ready s k;
-      accepted = Handed_in call ∷ m.accepted;
-      acknowledged = Handed_in call ∷ m.acknowledged;
+      accepted = Handed_in (call ∷ []) ∷ m.accepted;
+      acknowledged = Handed_in (call ∷ []) ∷ m.acknowledged;
     }
 after_run m call (run.Repeated n reply) s k = record m { phase = Ready s k }
 after_run m call (run.Refused why) s k = record m { phase = Ready s k }
@@ -123,16 +140,16 @@ IsSoFar p (far.Pending work) r h = ⊥
 IsSoFar p (far.Applied work) r h = p ≡ Applied r h work
 IsSoFar p far.Failed r h = ⊥
 
--- a command that is handed in is accepted and acknowledged if it is done
-abbrev pub after_hand_in : {R H : Type 0} → Now R H → Call → Answer → Phase R H → Now R H
-after_hand_in m call (run.Done n reply) p =
+-- calls that are handed in are accepted and acknowledged if they are done
+abbrev pub after_hand_in : {R H : Type 0} → Now R H → List Call → Answer → Phase R H → Now R H
+after_hand_in m calls (run.Done n reply) p =
     record m {
       phase = p;
-      accepted = Handed_in call ∷ m.accepted;
-      acknowledged = Handed_in call ∷ m.acknowledged;
+      accepted = Handed_in calls ∷ m.accepted;
+      acknowledged = Handed_in calls ∷ m.acknowledged;
     }
-after_hand_in m call (run.Repeated n reply) p = record m { phase = p }
-after_hand_in m call (run.Refused why) p = record m { phase = p }
+after_hand_in m calls (run.Repeated n reply) p = record m { phase = p }
+after_hand_in m calls (run.Refused why) p = record m { phase = p }
 
 -- the bench is open, over these media
 abbrev pub IsOpenOver : {R H : Type 0} → Phase R H → R → H → Type 0
@@ -165,11 +182,10 @@ pub record IsButMoved (w v : World) : Type 0 where
   pub shelf : w.shelf ≡ v.shelf
   pub size : w.size ≡ v.size
 
--- The call's step from u, after which providers may have gone away or come back.
-pub record IsStepTo (u : World) (call : Call) (w : World) : Type 0 where
+-- The calls' steps from u, after which providers may have gone away or come back.
+pub record AreStepsTo (u : World) (calls : List Call) (w : World) : Type 0 where
   pub stepped : World
-  pub reply : Reply
-  pub step : Step u call.key call.command stepped reply
+  pub steps : Steps u calls stepped
   pub moved : IsButMoved w stepped
 
 -- The call's step from u, by an opening without the provider: its sectors that the intents named
@@ -189,7 +205,7 @@ pub record IsStepWithout (u : World) (call : Call) (provider : List ℕ) (gone :
       → w.shelf q j ≡ stepped.shelf q j
 
 abbrev pub IsEntry : World → Entry → World → Type 0
-IsEntry u (Handed_in call) w = IsStepTo u call w
+IsEntry u (Handed_in calls) w = AreStepsTo u calls w
 IsEntry u (Without call provider gone) w = IsStepWithout u call provider gone w
 
 -- the world after these commands, by steps alone
@@ -197,17 +213,17 @@ abbrev pub Reached : Sizes → List Entry → World → Type 0
 Reached all [] w = IsNew all w
 Reached all (entry ∷ older) w = (u : World) × Reached all older u × IsEntry u entry w
 
--- u is the world before the last of these commands, which was handed in, and w the one after it
+-- u is the world before the last of these commits, which was handed in, and w the one after it
 abbrev pub IsLastStep : Sizes → List Entry → World → World → Type 0
 IsLastStep all [] u w = ⊥
-IsLastStep all (Handed_in call ∷ older) u w = Reached all older u × IsStepTo u call w
+IsLastStep all (Handed_in calls ∷ older) u w = Reached all older u × AreStepsTo u calls w
 IsLastStep all (Without call provider gone ∷ older) u w = ⊥
 
 -- u is the world before the first of those of the last commands that may be pending, and w the one
 -- after them all: openings without a provider, after one command that was handed in or after none
 abbrev pub ArePending : Sizes → List Entry → World → World → Type 0
 ArePending all [] u w = ⊥
-ArePending all (Handed_in call ∷ older) u w = Reached all older u × IsStepTo u call w
+ArePending all (Handed_in calls ∷ older) u w = Reached all older u × AreStepsTo u calls w
 ArePending all (Without call provider gone ∷ older) u w =
     (v : World) × Reached all older v × IsStepWithout v call provider gone w
     × (IsButMoved u v ⊎ ArePending all older u v)
@@ -216,11 +232,26 @@ ArePending all (Without call provider gone ∷ older) u w =
 abbrev pub HasCount : Trees → ℕ → Type 0
 HasCount db n = (t : Tables) → IsStored db t → count_of t ≡ n
 
--- the commits that were left: with that of the call, or without
+-- how many commands a commit accepts, and how many all of these do
+abbrev pub calls_in : Entry → ℕ
+calls_in (Handed_in calls) = length calls
+calls_in (Without call provider gone) = 1
+
+abbrev pub count_in : List Entry → ℕ
+count_in [] = 0
+count_in (entry ∷ older) = count_in older + calls_in entry
+
+-- each of these commits accepts one command
+abbrev pub AcceptOne : List Entry → Type 0
+AcceptOne [] = Unit {0}
+AcceptOne (entry ∷ older) = (calls_in entry ≡ 1) × AcceptOne older
+
+-- the commits that were left: with this one, or without
 abbrev pub IsLeftIn : Trees → Entry → List Entry → List Entry → Type 0
 IsLeftIn db entry before after =
-    ((after ≡ before) × HasCount db (length before))
-    ⊎ ((after ≡ entry ∷ before) × HasCount db (length before + 1))
+    (0 < calls_in entry)
+    × (((after ≡ before) × HasCount db (count_in before))
+    ⊎ ((after ≡ entry ∷ before) × HasCount db (count_in (entry ∷ before))))
 
 module _ {S H : Type 0} (g : Ghosts S) (j : ShelfGhosts H) where
   -- one store and one shelf that a stop within a call leaves: the store is of the call's start and
@@ -235,11 +266,11 @@ module _ {S H : Type 0} (g : Ghosts S) (j : ShelfGhosts H) where
 
   -- one store and one shelf that a stop within a run leaves: within the accepting, or after it,
   -- while the step is carried out
-  abbrev pub IsRunStop : (r s : Held S) (h k : H) (away : Image) (v u : World) (call : Call)
-      → LeavesRun g j r s h k away v u call.key call.command → Trees → H → Type 0
-  IsRunStop r s h k away v u call it db l =
+  abbrev pub IsRunStop : (r s : Held S) (h k : H) (away : Image) (v u : World)
+      (calls : List Call) → LeavesRun g j r s h k away v u calls → Trees → H → Type 0
+  IsRunStop r s h k away v u calls it db l =
       IsStop r it.registry h it.shelf db l
-      ⊎ ((w : World) × (reply : Reply) × Step u call.key call.command w reply
+      ⊎ ((w : World) × Steps u calls w
       × LeavesOnly g j it.registry s it.shelf k away u w
       × IsStop it.registry s it.shelf k db l)
 
@@ -297,15 +328,15 @@ module _ {S H : Type 0} (g : Ghosts S) (j : ShelfGhosts H) where
     -- each event is what the contract of its call says of an honest shelf and a disk that keeps
     -- what is written
     abbrev pub Happens : Now (Held S) H → Event (Held S) H → Now (Held S) H → Type 0
-    Happens m (Accept_returned call answer s k) n =
+    Happens m (Accept_returned calls answer s k) n =
         (r : Held S) × (h : H) × (waiting : Waiting) × IsDoneOver m.phase r h waiting
-        × (n ≡ after_answer m call answer s k)
-        × AcceptAnswers g j waiting r s h k call.key call.command answer
-    Happens m (Accept_stopped call s k db l) n =
+        × (n ≡ after_answer m calls answer s k)
+        × AcceptAnswers g j waiting r s h k calls answer
+    Happens m (Accept_stopped calls s k db l) n =
         (r : Held S) × (h : H) × (waiting : Waiting) × IsDoneOver m.phase r h waiting
         × (left : List Entry) × (n ≡ record m { phase = Down db l; accepted = left })
-        × IsLeftIn db (Handed_in call) m.accepted left
-        × AcceptLeaves g j waiting r s h k call.key call.command × IsStop r s h k db l
+        × IsLeftIn db (Handed_in calls) m.accepted left
+        × AcceptLeaves g j waiting r s h k calls × IsStop r s h k db l
     Happens m (Apply_returned k) n =
         (r : Held S) × (h : H) × (work : Work) × (m.phase ≡ Pending r h work)
         × (n ≡ record m { phase = Applied r k work }) × ApplyDoes g j r h k work
@@ -320,21 +351,21 @@ module _ {S H : Type 0} (g : Ghosts S) (j : ShelfGhosts H) where
         (r : Held S) × (h : H) × (work : Work) × (m.phase ≡ Applied r h work)
         × (n ≡ record m { phase = Down db l }) × SettleLeaves g j r s h work
         × IsStop r s h h db l
-    Happens m (Hand_in_returned call answer progress s k) n =
+    Happens m (Hand_in_returned calls answer progress s k) n =
         (r : Held S) × (h : H) × (before : Progress) × IsSoFar m.phase before r h
         × (p : Phase (Held S) H) × IsSoFar p progress s k
-        × (n ≡ after_hand_in m call answer p)
+        × (n ≡ after_hand_in m calls answer p)
         × (phase_of progress ≡ phase_carried (phase_of before) answer)
         × ((away : Image) (v u : World) → Stands g j before r h away v u
-        → IsHandedIn g j progress r s h k away v u call.key call.command answer)
-    Happens m (Hand_in_stopped call s k db l) n =
+        → AreHandedIn g j progress r s h k away v u calls answer)
+    Happens m (Hand_in_stopped calls s k db l) n =
         (r : Held S) × (h : H) × (before : Progress) × IsSoFar m.phase before r h
         × (left : List Entry) × (n ≡ record m { phase = Down db l; accepted = left })
-        × IsLeftIn db (Handed_in call) m.accepted left
+        × IsLeftIn db (Handed_in calls) m.accepted left
         × (leaves : (away : Image) (v u : World) → Stands g j before r h away v u
-        → LeavesRun g j r s h k away v u call.key call.command)
+        → LeavesRun g j r s h k away v u calls)
         × ((away : Image) (v u : World) (stands : Stands g j before r h away v u)
-        → IsRunStop r s h k away v u call (leaves away v u stands) db l)
+        → IsRunStop r s h k away v u calls (leaves away v u stands) db l)
     Happens m (Settle_waiting_returned s k) n =
         (r : Held S) × (h : H) × (before : Progress) × IsSoFar m.phase before r h
         × (n ≡ record m { phase = Ready s k })
@@ -352,10 +383,10 @@ module _ {S H : Type 0} (g : Ghosts S) (j : ShelfGhosts H) where
     Happens m (Run_stopped call s k db l) n =
         (r : Held S) × (h : H) × (m.phase ≡ Ready r h)
         × (left : List Entry) × (n ≡ record m { phase = Down db l; accepted = left })
-        × IsLeftIn db (Handed_in call) m.accepted left
+        × IsLeftIn db (Handed_in (call ∷ [])) m.accepted left
         × (leaves : RunLeaves g j r s h k call.key call.command)
         × ((away : Image) (u : World) (at : IsAt g j r h away [] [] u u)
-        → IsRunStop r s h k away u u call (leaves away u at) db l)
+        → IsRunStop r s h k away u u (call ∷ []) (leaves away u at) db l)
     Happens m (Look_returned s k) n =
         (r : Held S) × (h : H) × IsOpenOver m.phase r h
         × (n ≡ record m { phase = with_media m.phase s k })

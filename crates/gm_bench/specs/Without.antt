@@ -153,11 +153,12 @@ StaysReadable s ts bytes (New loss) = AreReadable s bytes ts
     → IsState loss.after × AreReadable loss.after loss.bytes.items loss.intents.items
 
 -- The loss can be committed under the key, in place of the intents that are pending: its change
--- fits the tables, and after it no more than 17 intents more are pending.
+-- fits the tables, under one key, and after it no more than 17 intents more are pending.
 pub record CanCommit (key : List ℕ) (ts : List Intent) (t : Tables) (loss : Loss) : Type 0 where
   pub key_ok : is_key key ≡ true
   pub free : IsFree t key
   pub room : count_of t < 100000
+  pub once : loss.change.further ≡ []
   pub change : IsFitting loss.change (string_bytes loss.words) (settled t)
   pub few : length loss.intents.items ≤ length ts + 17
 

@@ -1,6 +1,7 @@
 //! Commands that are handed in: each is judged, and then committed.
 
-ghost use Rattle.std.specs.Prelude.{◌≡◌};
+ghost use Rattle.std.specs.Prelude.{◌≡◌, map, string_bytes};
+ghost use Rattle.gm_rules.specs.Series.{keyed_of, last_reply};
 ghost use Rattle.gm_registry.specs.Accepting.{Accepts as WritesAccepted};
 ghost use Rattle.gm_registry.specs.Changes.{with_accepted};
 ghost use Rattle.gm_registry.specs.Registry.{Writes};
@@ -17,8 +18,19 @@ use gm_changes::Change;
 use gm_commands::Command;
 use gm_rows::StoreFault;
 use gm_shelf::Shelf;
+use gm_state::Reply;
 use sqlite::Alter;
 use std::alloc::Global;
+
+// What a change is answered under the last of its keys.
+fn last_reply(change: &Change) -> Reply
+    ensures { result ≡ last_reply change.now.reply (map keyed_of change.now.further) }
+{
+    match change.further().last() {
+        Some(further) => further.reply,
+        None => change.reply(),
+    }
+}
 
 impl<S: Alter, H: Shelf> Media<S, H> {
     // Writes a change and its key in one transaction, which takes out what waits.
@@ -64,28 +76,31 @@ impl<S: Alter, H: Shelf> Media<S, H> {
         match self.write(waiting, &planned.change, key, &words) {
             Ok(number) => Ok(Accepted::Done {
                 number,
-                reply: planned.change.reply(),
+                count: planned.change.further().len() as u64 + 1,
+                reply: last_reply(&planned.change),
                 work: planned.work,
             }),
             Err(fault) => Err(BenchFault::of_store(fault)),
         }
     }
 
-    /// Hands in a command under a key. It reads the shelf, and writes the registry alone: the
-    /// transaction that accepts the command settles what waits. The watch is told how far data are
-    /// compared, which `adopt` does.
+    /// Hands in a command under a key, and under as many of these further ones, in turn, as it can
+    /// be. It reads the shelf, and writes the registry alone: the transaction that accepts the
+    /// command settles what waits. The watch is told how far data are compared, which `adopt` does.
     pub(crate) fn accept<W: Watch>(
         &mut self,
         alloc: Global,
         waiting: Waiting,
         key: &str,
+        more: &[String],
         command: &Command,
         watch: &mut W,
     ) -> Result<Accepted, BenchFault>
         ensures { TakesCommand S.Store H.Shelf self.old self.new waiting result
-            key.now command.now }
+            key.now (map string_bytes more.now) command.now }
     {
-        let judgement = self.judge(alloc, key, command, watch)?;
+        let first = self.judge(alloc, key, command, watch)?;
+        let judgement = self.take_further(alloc, first, key, more, command)?;
         self.commit(waiting, judgement, key)
     }
 }

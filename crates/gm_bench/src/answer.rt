@@ -15,6 +15,16 @@ pub enum Answer {
     Refused(CallRefusal),
 }
 
+/// What a series of commands is answered, of which each follows the one before it.
+#[derive(Clone, Copy, Debug, PartialEq, Eq)]
+pub struct SeriesAnswer {
+    /// What the first is answered. If that is done, the number is the first one's, and the reply
+    /// the last one's.
+    pub answer: Answer,
+    /// How many are done.
+    pub count: u64,
+}
+
 /// A command that was accepted before, under the key that was asked for.
 #[derive(Debug, Drop)]
 pub struct Kept {
@@ -33,11 +43,16 @@ pub(crate) struct Work {
     pub(crate) bytes: Vec<[u8; 512]>,
 }
 
-/// What a command is answered, with what is still to be carried out.
+/// What a command is answered, and those that are accepted with it, with what is still to be
+/// carried out.
 #[derive(Drop)]
 pub(crate) enum Accepted {
     Done {
+        /// The first one's.
         number: u64,
+        /// How many commands were accepted.
+        count: u64,
+        /// The last one's.
         reply: Reply,
         work: Work,
     },

@@ -1,11 +1,12 @@
 //! Commands: handed in, carried out and settled, one call each or in one.
 
 ghost use Rattle.gm_bench.specs.Benches.{progress_of};
-ghost use Rattle.gm_bench.specs.HandedIn.{AcceptsCommand, RunsCommand};
+ghost use Rattle.std.specs.Prelude.{map, string_bytes};
+ghost use Rattle.gm_bench.specs.HandedIn.{AcceptsCommand, AcceptsSeries, RunsCommand};
 ghost use Rattle.gm_bench.specs.Phases.{TakesCommands, TakesNext, HasWork, HasDone};
 ghost use Rattle.gm_bench.specs.HandedIn.{CarriesOutWork, SettlesWork};
 
-use crate::answer::Answer;
+use crate::answer::{Answer, SeriesAnswer};
 use crate::bench::Bench;
 use crate::fault::BenchFault;
 use crate::phase::{Phase, Progress};
@@ -31,25 +32,31 @@ impl<S: Alter, H: Shelf> Bench<S, H> {
         requires { TakesNext (progress_of self.old) }
         ensures { AcceptsCommand S.Store H.Shelf self.old self.new result key.now command.now }
     {
-        self.accept_watched(alloc, key, command, &mut Unwatched)
+        let answered = self.accept_keys(alloc, key, &[], command, &mut Unwatched)?;
+        Ok(answered.answer)
     }
 
-    /// The same. The watch is told how far data are compared, which `adopt` does.
-    pub(crate) fn accept_watched<W: Watch>(
+    /// The same, under as many of these further keys too, in turn, as it can be. The watch is told
+    /// how far data are compared, which `adopt` does.
+    pub(crate) fn accept_keys<W: Watch>(
         &mut self,
         alloc: Global,
         key: &str,
+        more: &[String],
         command: &Command,
         watch: &mut W,
-    ) -> Result<Answer, BenchFault>
+    ) -> Result<SeriesAnswer, BenchFault>
         requires { TakesNext (progress_of self.old) }
-        ensures { AcceptsCommand S.Store H.Shelf self.old self.new result key.now command.now }
+        ensures { AcceptsSeries S.Store H.Shelf self.old self.new result key.now
+            (map string_bytes more.now) command.now }
     {
         let Some(waiting) = self.progress.waiting() else {
             return Err(BenchFault::Closed);
         };
         let before = mem::replace(&mut self.progress, Progress::Failed);
-        let accepted = self.media.accept(alloc, waiting, key, command, watch)?;
+        let accepted = self
+            .media
+            .accept(alloc, waiting, key, more, command, watch)?;
         let (answer, progress) = accepted.tell(before);
         self.progress = progress;
         Ok(answer)

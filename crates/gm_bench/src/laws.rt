@@ -14,7 +14,7 @@ ghost use Rattle.gm_bench.specs.Losing.{HasNext, as_left, left_to_lay, pending_a
 ghost use Rattle.sqlite.specs.Held.{Held};
 ghost use Rattle.gm_metadata.specs.Images.{Image, Sizes};
 ghost use Rattle.gm_state.specs.Records.{members};
-ghost use Rattle.gm_bench.specs.Schedule.{Event, Now, Runs, Headline};
+ghost use Rattle.gm_bench.specs.Schedule.{AcceptOne, AreAlone, Event, Headline, Now, Runs};
 
 use gm_shelf::Shelf;
 use sqlite::Alter;
@@ -26,9 +26,13 @@ use sqlite::Alter;
 /// pending, or a stop left it, what is there leads to that world, and no component claims on the
 /// way a sector that it lacks.
 pub fn whole_run_law<S: Alter, H: Shelf>()
-    ensures { (all : Sizes) (events : List (Event (Held S) H)) (now : Now (Held S) H)
+    ensures headline { (all : Sizes) (events : List (Event (Held S) H)) (now : Now (Held S) H)
         → Runs S.Store H.Shelf all events now
         → Headline S.Store H.Shelf all now.phase now.away now.accepted now.acknowledged }
+    // If no series is handed in, each commit accepts one command: only the one whose call was
+    // running may be missing after a stop.
+    ensures alone { (all : Sizes) (events : List (Event (Held S) H)) (now : Now (Held S) H)
+        → Runs S.Store H.Shelf all events now → AreAlone events → AcceptOne now.accepted }
 {}
 
 /// What is pending after the loss of a component leads on, and keeps what was claimed before the

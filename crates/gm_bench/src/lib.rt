@@ -7,11 +7,13 @@
 //! `specs/Calls.antt` and `specs/Opened.antt`, what all calls of a kind leave and tell beside that
 //! (`specs/Benches.antt` names what is in a bench), and `specs/Schedule.antt`, what a whole run is;
 //! then `bench` and `calls`, whose calls are those of `media` in turn. `hand_in` hands in one
-//! command after another, each of which settles the one before it (`specs/Standing.antt`).
-//! `specs/HandedIn.antt` says what a call owes that hands in a command. Such a call judges the
-//! command first, and only reads for that (`judgement`, `found_key`, `plan`:
-//! `specs/Judgements.antt`, `specs/FoundKeys.antt`, `specs/Asking.antt`). It commits what can be
-//! accepted (`accept`: `specs/Stepping.antt`), and carries that out (`specs/CarryingOut.antt`).
+//! command after another, each of which settles the one before it (`specs/Standing.antt`), or
+//! several advances in one commit: a series. `specs/HandedIn.antt` says what a call owes that hands
+//! in a command. Such a call judges the command first, and only reads for that (`judgement`,
+//! `found_key`, `plan`: `specs/Judgements.antt`, `specs/FoundKeys.antt`, `specs/Asking.antt`). It
+//! plans the further stretches of a series (`further`: `specs/Keys.antt`, `specs/Series.antt`),
+//! commits what can be accepted (`accept`: `specs/Stepping.antt`), and carries that out
+//! (`specs/CarryingOut.antt`).
 //! `laws` says what holds of every run. `views` has the calls that only look; what they tell of a
 //! state and a shelf is gm_looks's.
 //!
@@ -29,6 +31,7 @@ mod calls;
 mod facts;
 mod fault;
 mod found_key;
+mod further;
 mod hand_in;
 mod judgement;
 mod laws;
@@ -46,10 +49,11 @@ mod take_up_without;
 mod views;
 mod without;
 
-pub use answer::{Answer, Kept};
+pub use answer::{Answer, Kept, SeriesAnswer};
 pub use bench::{Bench, OpenFault};
 pub use fault::BenchFault;
 pub use gm_apply::{Unwatched, Watch};
+pub use hand_in::MAX_SERIES;
 pub use laws::{losses_lead_on, whole_run_law};
 pub use loss::LossRefusal;
 pub use open_without::Without;

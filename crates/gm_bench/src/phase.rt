@@ -1,9 +1,9 @@
 //! How far a bench is with a command.
 
 ghost use Rattle.std.specs.Prelude.{◌≡◌, ◌≢◌, Option};
-ghost use Rattle.gm_bench.specs.Phases.{TakesNext, answer_of, phase_of, progress_after, waiting_of};
+ghost use Rattle.gm_bench.specs.Phases.{TakesNext, phase_of, progress_after, series_answer_of, waiting_of};
 
-use crate::answer::{Accepted, Answer, Work};
+use crate::answer::{Accepted, Answer, SeriesAnswer, Work};
 
 /// What a bench may be asked next.
 #[derive(Clone, Copy, Debug, PartialEq, Eq)]
@@ -63,17 +63,19 @@ impl Progress {
 
 impl Accepted {
     /// The answer, and how far a bench is then that was so far before.
-    pub(crate) fn tell(self, before: Progress) -> (Answer, Progress)
-        ensures { (result.0 ≡ answer_of self) × (result.1 ≡ progress_after before self) }
+    pub(crate) fn tell(self, before: Progress) -> (SeriesAnswer, Progress)
+        ensures { (result.0 ≡ series_answer_of self) × (result.1 ≡ progress_after before self) }
     {
-        match self {
+        let (answer, count, progress) = match self {
             Accepted::Done {
                 number,
+                count,
                 reply,
                 work,
-            } => (Answer::Done(number, reply), Progress::Pending(work)),
-            Accepted::Repeated(number, reply) => (Answer::Repeated(number, reply), before),
-            Accepted::Refused(refusal) => (Answer::Refused(refusal), before),
-        }
+            } => (Answer::Done(number, reply), count, Progress::Pending(work)),
+            Accepted::Repeated(number, reply) => (Answer::Repeated(number, reply), 0, before),
+            Accepted::Refused(refusal) => (Answer::Refused(refusal), 0, before),
+        };
+        (SeriesAnswer { answer, count }, progress)
     }
 }

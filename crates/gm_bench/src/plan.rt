@@ -43,8 +43,8 @@ pub(crate) struct Gathered {
     pub(crate) facts: Facts,
 }
 
-// What a change leaves to be done.
-fn plan(alloc: Global, part: &State, change: Change) -> Result<Planned, BenchFault>
+/// What a change leaves to be done.
+pub(crate) fn plan(alloc: Global, part: &State, change: Change) -> Result<Planned, BenchFault>
     ensures planned { IfOk result (λ p. (p.change ≡ change)
         × (p.work.part ≡ changed_by change part.now)
         × (p.work.intents.items ≡ change.intents) × (p.work.bytes.items ≡ change.bytes)) }

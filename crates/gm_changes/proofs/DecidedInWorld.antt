@@ -206,6 +206,7 @@ decides_in facts u c are (Ok ch) d =
       intents = d.intents ∙ ap (intents_of c u.state) e;
       bytes = d.bytes;
       reply = d.reply;
+      once = d.once;
     }
 
 pub in_world : (facts : List Fact) (s : Records) (c : Command) (r : Result Changed Refusal)

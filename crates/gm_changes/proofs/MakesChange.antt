@@ -27,6 +27,7 @@ label_makes s x new sectors m k ch good size mirror first is =
       intents = rw (is, first) refl;
       bytes = rw is refl;
       reply = rw is refl;
+      once = rw is refl;
     }
 
 pub insert_makes : (s : Records) (x : Seen) (new : NewComponent) (m : Mirror) (ks : List Component)
@@ -58,6 +59,7 @@ insert_makes s x new m ks sectors k ch good state found mine size none made is =
       intents = rw (is, made, found, size, placed, mine) refl;
       bytes = rw is refl;
       reply = rw is refl;
+      once = rw is refl;
     }
 
 pub remove_makes : (s : Records) (x : Seen) (n p : List ℕ) (m : Mirror) (ks : List Component)
@@ -81,6 +83,7 @@ remove_makes s x n p m ks ch good found mine is =
       intents = rw (is, found, swapped, mine) refl;
       bytes = rw is refl;
       reply = rw is refl;
+      once = rw is refl;
     }
 
 pub deactivate_makes : (s : Records) (x : Seen) (n p : List ℕ) (m : Mirror) (ks : List Component)
@@ -103,6 +106,7 @@ deactivate_makes s x n p m ks ch good state found mine is =
       intents = rw (is, found, placed, mine) refl;
       bytes = rw is refl;
       reply = rw is refl;
+      once = rw is refl;
     }
 
 pub activate_makes : (s : Records) (x : Seen) (n p : List ℕ) (m : Mirror) (k : Component)
@@ -122,6 +126,7 @@ activate_makes s x n p m k ch good state found at is =
       intents = rw (is, provider_at s p k at) refl;
       bytes = rw is refl;
       reply = rw is refl;
+      once = rw is refl;
     }
 
 pub forget_makes : (s : Records) (x : Seen) (n : List ℕ) (m : Mirror) (ks : List Component)
@@ -140,6 +145,7 @@ forget_makes s x n m ks ch good found mine is =
       intents = rw (is, found, mine) refl;
       bytes = rw is refl;
       reply = rw is refl;
+      once = rw is refl;
     }
 
 pub rebuild_makes : (s : Records) (x : Seen) (n p : List ℕ) (k : Component) (ch : Changed)
@@ -157,6 +163,7 @@ rebuild_makes s x n p k ch good state at is =
       intents = rw (is, provider_at s p k at) refl;
       bytes = rw is refl;
       reply = rw is refl;
+      once = rw is refl;
     }
 
 pub advance_makes : (s : Records) (x : Seen) (n p : List ℕ) (m : Mirror) (k : Component)
@@ -178,6 +185,7 @@ advance_makes s x n p m k source ch good state found at lent is =
       intents = rw (is, found, at, lent) refl;
       bytes = rw is refl;
       reply = rw (is, found, at) refl;
+      once = rw is refl;
     }
 
 pub configure_makes : (s : Records) (x : Seen) (n : List ℕ) (settings : Settings) (m : Mirror)
@@ -201,6 +209,7 @@ configure_makes s x n settings m ks ch good state found mine is =
       intents = rw (is, found, placed, mine) refl;
       bytes = rw is refl;
       reply = rw is refl;
+      once = rw is refl;
     }
 
 pub patch_makes : (s : Records) (x : Seen) (n : List ℕ) (first : ℕ) (sectors : List (List ℕ))
@@ -226,6 +235,7 @@ patch_makes s x n first sectors m ks ch good state found mine is =
       intents = rw (is, found, placed, mine) refl;
       bytes = rw is refl;
       reply = rw is refl;
+      once = rw is refl;
     }
 
 -- two filters in a row
@@ -278,6 +288,7 @@ lost_makes s x n ps m ks ch good found mine is =
       intents = rw (is, found, left) refl;
       bytes = rw is refl;
       reply = rw is refl;
+      once = rw is refl;
     }
 
 -- a mirror that isn't registered has no components
@@ -334,6 +345,7 @@ destroy_makes s x n ks ch good state mine is =
       intents = rw (is, mine) refl;
       bytes = rw is refl;
       reply = rw is refl;
+      once = rw is refl;
     }
 
 pub adopt_makes : (s : Records) (x : Seen) (n : List ℕ) (ps : List (List ℕ)) (b : Member)
@@ -368,4 +380,5 @@ adopt_makes s x n ps b ch good state from is =
       intents = rw (is, from, placed) refl;
       bytes = rw is refl;
       reply = rw is refl;
+      once = rw is refl;
     }

@@ -12,10 +12,12 @@ use Rattle.gm_state.specs.Records.{Records, name, provider}
 use Rattle.gm_refusals.specs.declared.refusals.Refusal.{Refusal}
 use Rattle.gm_refusals.specs.Seen.{Seen}
 use Rattle.gm_refusals.specs.Adoptable.{adopted_mirror, adopted}
+use Rattle.gm_changes.specs.declared.change.Further.{Further}
 use Rattle.gm_changes.specs.After.{after, bytes_of, intents_of, metas, reply_to}
 use Rattle.gm_refusals.specs.Applies.{IsLeast, IsGood}
 
--- records to put, names of records to delete, intents, the sectors that they lay over data, reply
+-- records to put, names of records to delete, intents, the sectors that they lay over data, reply,
+-- and under which further keys the command is accepted as well
 pub record Changed : Type 0 where
   pub mirror : Option Mirror
   pub gone_mirror : Option (List ℕ)
@@ -24,6 +26,7 @@ pub record Changed : Type 0 where
   pub intents : List Intent
   pub bytes : List (List ℕ)
   pub reply : Reply
+  pub further : List Further
 
 -- nothing is put, deleted or written, and the answer is plain
 abbrev pub no_change : Changed
@@ -35,6 +38,7 @@ no_change = record {
   intents = [];
   bytes = [];
   reply = Plain;
+  further = [];
 }
 
 -- the change of an adoption whose source is b
@@ -72,7 +76,7 @@ pub record PutsInPlace (s : Records) (ch : Changed) : Type 0 where
       → j.provider ≡ k.provider → (j.mirror ≡ k.mirror) × (j.did ≡ k.did)
 
 -- no refusal applies, and the change is what the command makes of the records, with its intents,
--- their bytes and its reply
+-- their bytes and its reply, once
 pub record Makes (s : Records) (x : Seen) (c : Command) (ch : Changed) : Type 0 where
   pub good : IsGood s x c
   pub records : changed_by ch s ≡ after x c s
@@ -80,6 +84,7 @@ pub record Makes (s : Records) (x : Seen) (c : Command) (ch : Changed) : Type 0 
   pub intents : ch.intents ≡ intents_of c s (after x c s)
   pub bytes : ch.bytes ≡ bytes_of c
   pub reply : ch.reply ≡ reply_to c s
+  pub once : ch.further ≡ []
 
 -- the least refusal, or the change
 abbrev pub Decides : Records → Seen → Command → Result Changed Refusal → Type 0

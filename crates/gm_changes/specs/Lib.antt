@@ -1,3 +1,4 @@
 pub mod After
 pub mod Decides
 pub mod PartChange
+pub mod Stretches

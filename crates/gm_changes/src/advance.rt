@@ -20,8 +20,8 @@ use std::alloc::{AllocError, Global};
 // How many sectors a stretch has at most.
 const STRETCH: u32 = 256;
 
-// How many of the mirror's data sectors the component holds after its next stretch.
-fn reach(mirror: &Mirror, component: &Component) -> u32
+/// How many of the mirror's data sectors the component holds after its next stretch.
+pub(crate) fn reach(mirror: &Mirror, component: &Component) -> u32
     requires { held_of component.now.disk + 256 < 2 ^ 32 }
     ensures { result ≡ reach mirror.now component.now }
 {
@@ -45,6 +45,16 @@ fn holding(mirror: &Mirror, held: u32, disk: Disk) -> Disk
     }
 }
 
+/// A component that holds so many sectors by now.
+pub(crate) fn filled(mirror: &Mirror, held: u32, component: Component) -> Component
+    ensures { result ≡ record component { disk = holding mirror.now held component.disk } }
+{
+    Component {
+        disk: holding(mirror, held, component.disk),
+        ..component
+    }
+}
+
 /// A component to which its next stretch is copied from the source.
 pub(crate) fn advanced(
     alloc: Global,
@@ -62,12 +72,8 @@ pub(crate) fn advanced(
     let target = component.provider;
     let first = component.disk.held();
     let end = reach(mirror, &component);
-    let filled = Component {
-        disk: holding(mirror, end, component.disk),
-        ..component
-    };
     Ok(Change {
-        components: vec![in alloc; filled]?,
+        components: vec![in alloc; filled(mirror, end, component)]?,
         intents: vec![in alloc;
             Intent::Copy {
                 source,

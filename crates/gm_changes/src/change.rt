@@ -9,8 +9,17 @@ use gm_state::{Component, Intent, Mirror, Reply};
 use std::alloc::{AllocError, Global};
 use std::marker::Model;
 
+/// A further key under which the same command is accepted, after the one before it, and what it is
+/// answered then.
+#[derive(Debug, Drop)]
+pub struct Further {
+    pub key: String,
+    pub reply: Reply,
+}
+
 /// Records to put, names of records to delete, what is to be written, and what is answered.
-/// Deletions come before what is put.
+/// Deletions come before what is put. If the command is accepted under further keys too, the
+/// records and what is to be written are those of all.
 #[derive(Debug, Drop)]
 pub struct Change {
     pub(crate) mirror: Option<Mirror>,
@@ -20,6 +29,7 @@ pub struct Change {
     pub(crate) intents: Vec<Intent>,
     pub(crate) bytes: Vec<[u8; 512]>,
     pub(crate) reply: Reply,
+    pub(crate) further: Vec<Further>,
 }
 
 impl Model for Change {
@@ -35,6 +45,7 @@ impl Model for Change {
       intents = a.intents.items;
       bytes = a.bytes.items;
       reply = a.reply;
+      further = a.further.items;
     } };
 }
 
@@ -52,6 +63,7 @@ impl Change {
             intents: Vec::new(alloc),
             bytes: Vec::new(alloc),
             reply: Reply::Plain,
+            further: Vec::new(alloc),
         }
     }
 
@@ -97,11 +109,18 @@ impl Change {
         &self.bytes
     }
 
-    /// What is answered.
+    /// What is answered, under the first key.
     pub fn reply(&self) -> Reply
         ensures { result ≡ self.now.reply }
     {
         self.reply
+    }
+
+    /// The further keys under which it is accepted, in turn.
+    pub fn further(&self) -> &[Further]
+        ensures { result.now ≡ self.now.further }
+    {
+        &self.further
     }
 }
 

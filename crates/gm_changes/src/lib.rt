@@ -3,8 +3,8 @@
 //!
 //! Begin with `change.rt`, the answer, and `specs/After.antt`, what each command makes of the
 //! records. `decision.rt` decides on a command, by the least refusal or its change; each command
-//! has a file of its own, and `members.rt` what several of them share. `changed_state.rt` makes the
-//! change.
+//! has a file of its own, and `members.rt` what several of them share. `stretch.rt` goes on with an
+//! advance, under further keys. `changed_state.rt` makes the change.
 #![tactic(auto)]
 
 mod activate;
@@ -25,7 +25,8 @@ mod members;
 mod patch;
 mod rebuild;
 mod remove;
+mod stretch;
 
-pub use change::Change;
+pub use change::{Change, Further};
 pub use changed_state::changed_by;
 pub use decision::{decide, decide_part};

@@ -7,9 +7,9 @@ use Rattle.gm_front.specs.declared.answer_lines.BatchEnd.TheVariants as end
 
 -- one more call, handed in last
 pub with_last : (calls : List run.Call) (call : run.Call) (entries : List Entry)
-    → with_calls (calls ++ call ∷ []) entries ≡ Handed_in call ∷ with_calls calls entries
+    → with_calls (calls ++ call ∷ []) entries ≡ Handed_in (call ∷ []) ∷ with_calls calls entries
 with_last [] call entries = refl
-with_last (first ∷ calls) call entries = with_last calls call (Handed_in first ∷ entries)
+with_last (first ∷ calls) call entries = with_last calls call (Handed_in (first ∷ []) ∷ entries)
 
 none_within : {A : Type 0} (xs : List A) → Within [] xs
 none_within [] = none
@@ -57,7 +57,7 @@ module _ (all : Sizes) where
       → Reached all acc u → Within ack acc → Leads (call ∷ asks) acc ack w
   one_call call (run.Done n reply) asks u v w acc ack calls rest reached told =
       let step : Step u call.key call.command v reply = calls.3 in
-      let r = rest (Handed_in call ∷ acc) (Handed_in call ∷ ack) (
+      let r = rest (Handed_in (call ∷ []) ∷ acc) (Handed_in (call ∷ []) ∷ ack) (
         u,
         reached,
         one_step u v call reply step,
@@ -155,11 +155,11 @@ module _ (all : Sizes) where
     -- a bench that was at rest failed at this call
     pub stopped_at : (call : run.Call) (r s : Held S) (h k : H) (away : Image)
         (acc ack : List Entry) → (rest : AtRest g j all r h away acc ack)
-        → LeavesRun g j r s h k away rest.world rest.world call.key call.command
+        → LeavesRun g j r s h k away rest.world rest.world (call ∷ [])
         → IsStoppedAt g j all call r s h k away acc ack rest
     stopped_at call r s h k away acc ack rest left = record {
       left = left;
-      leads = λ db later after found stop. run_stopped g j all call _ r s h k db later
+      leads = λ db later after found stop. run_stopped g j all (call ∷ []) _ r s h k db later
           away acc ack after (reached_at_rest g j all r h away acc ack rest) found left stop;
     }
 
@@ -188,24 +188,24 @@ module _ (all : Sizes) where
     pub next_leads : (handed : List run.Call) (call : run.Call) (r s : Held S) (h k : H)
         (away : Image) (acc ack : List Entry)
         (it : AreCarriedBehind g j all handed r h away acc ack)
-        (left : LeavesNext g j r s h k away it.before it.world call.key call.command)
+        (left : LeavesNext g j r s h k away it.before it.world (call ∷ []))
         (db : Trees) (l : H) (after : List Entry)
-        → IsLeftIn db (Handed_in call) (with_calls it.calls acc) after
+        → IsLeftIn db (Handed_in (call ∷ [])) (with_calls it.calls acc) after
         → IsNextStop g j all r s h k away it.before it.world call left db l
         → Stopped g j all db l away after (with_calls it.calls ack)
     next_leads handed call r s h k away acc ack it (inl left) db l after found stop =
-        run_stopped g j all call _ r s h k db l away (with_calls it.calls acc)
+        run_stopped g j all (call ∷ []) _ r s h k db l away (with_calls it.calls acc)
         (with_calls it.calls ack) after (reached_done g j all r h away
         (with_calls it.calls acc) (with_calls it.calls ack) it.intents it.bytes it.before it.world
         it.reached it.last it.at it.told) found left stop
     next_leads handed call r s h k away acc ack it (inr left) db l after found (inl stop) =
-        accept_stopped g j all call _ r left.registry h left.shelf db l away
+        accept_stopped g j all (call ∷ []) _ r left.registry h left.shelf db l away
         (with_calls it.calls acc) (with_calls it.calls ack) after
         (reached_done g j all r h away
         (with_calls it.calls acc) (with_calls it.calls ack) it.intents it.bytes it.before it.world
         it.reached it.last it.at it.told) found left.accepting stop
     next_leads handed call r s h k away acc ack it (inr left) db l after found (inr stop) =
-        settling_stopped g j all call _ r left.registry s h left.shelf k db l
+        settling_stopped g j all (call ∷ []) _ r left.registry s h left.shelf k db l
         away (with_calls it.calls acc) (with_calls it.calls ack) after
         (reached_done g j all r h away
         (with_calls it.calls acc) (with_calls it.calls ack) it.intents it.bytes it.before it.world

@@ -29,7 +29,7 @@ pub use Rattle.gm_http.proofs.Common.{code_of, IsFromPage, Sends, Asks}
 pub use Rattle.gm_rows.proofs.Common.{AreRecordsOf, AreTablesOf}
 pub use Rattle.gm_registry.proofs.Common.{DiskKept, HasRoom, StoreFailed, seen, WasClean}
 pub use Rattle.gm_registry.proofs.ReadsInTurn.{sees_registry}
-pub use Rattle.gm_bench.proofs.Common.{LeavesRun, ArePending, AtRest, Entry, Handed_in, IsButMoved, IsLeftIn, Reached, Stopped, Within, keeps, none, skips, LeavesNext, registry_of, shelf_of, LooksOn, whole, LookDoes, IsAt, LeavesOnly, TakesCommands, IsHandedIn, Stands, IsStop, SettleDoes, SettleLeaves, TakesNext, phase_of, most_rows, TellsKept}
+pub use Rattle.gm_bench.proofs.Common.{LeavesRun, ArePending, AtRest, Entry, Handed_in, IsButMoved, IsLeftIn, Reached, Stopped, Within, keeps, none, skips, LeavesNext, registry_of, shelf_of, LooksOn, whole, LookDoes, IsAt, LeavesOnly, TakesCommands, IsHandedIn, one_call, Stands, IsStop, SettleDoes, SettleLeaves, TakesNext, phase_of, most_rows, TellsKept}
 pub use Rattle.gm_bench.proofs.FactsLookedUp.{honest_to_adopt}
 pub use Rattle.gm_bench.proofs.Induction.{accept_stopped, reached_done, run_stopped, settling_stopped, stopped}
 pub use Rattle.gm_bench.proofs.Looks.{looked_at}

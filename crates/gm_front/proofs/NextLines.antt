@@ -1,5 +1,5 @@
 -- A command that is handed in after one that is perhaps still to be settled.
-use Rattle.gm_front.proofs.Common.{◌≡◌, ◌∙◌, inl, inr, ℕ, List, [], Ok, Err, Result, refl, sym, subst, IsErrAnd, IfErr, Ghosts, Held, Image, Command, World, Answer, Progress, TakesCommands, IsAt, LeavesOnly, IsHandedIn, LeavesNext, Stands, then_only, stands_rest, IsAnsweredNext}
+use Rattle.gm_front.proofs.Common.{◌≡◌, ◌∙◌, inl, inr, ℕ, List, [], Ok, Err, Result, refl, sym, subst, IsErrAnd, IfErr, Ghosts, Held, Image, Command, World, Answer, Progress, TakesCommands, IsAt, LeavesOnly, IsHandedIn, LeavesNext, one_call, Stands, then_only, stands_rest, IsAnsweredNext}
 use Rattle.gm_shelf.specs.declared.shelf.Shelf.{Ghosts as ShelfGhosts}
 use Rattle.gm_bench.specs.declared.answer.Answer.TheVariants.{Done, Repeated, Refused}
 
@@ -54,7 +54,7 @@ module _ {S H : Type 0} (g : Ghosts S) (j : ShelfGhosts H) where
         → IsHandedIn g j q r mid h k away v u key c a → j.size k ≡ j.size h → l ≡ k
         → ((x w : World) → Stands g j q mid k away x w
         → LeavesOnly g j mid s k l away x w)
-        → LeavesNext g j r s h l away v u key c
+        → LeavesNext g j r s h l away v u (one_call key c)
     unsettled_next s l (Done n reply) it sizes same settling = inl (record {
       registry = it.2.registry;
       shelf = it.2.shelf;
@@ -62,8 +62,7 @@ module _ {S H : Type 0} (g : Ghosts S) (j : ShelfGhosts H) where
       accepting = it.2.accepting;
       carrying = inr (
         it.0,
-        reply,
-        it.1.3,
+        (it.0, reply, it.1.3, refl),
         it.2.pending,
         then_only g j it.2.registry mid s it.2.shelf k l away u it.0 same
             (sizes ∙ sym it.2.sizes) it.2.carrying (settling u it.0 it.3),

@@ -1,5 +1,5 @@
 -- Commands that are withheld, and requests that are served so.
-use Rattle.gm_front.proofs.Common.{◌≡◌, inl, inr, refl, ap, subst, ℕ, List, Option, Result, Ok, Err, IfSome, IfOk, IfErr, OnErr, Appends, Ghosts, Held, Image, Command, World, Asks, code_of, registry_of, shelf_of, LeavesRun, LeavesOnly, Bench, FrontFault, Memory, Read, Write, Finding, Response, AppendsFront, Carry, Demand, Told, demand_of, IsPut, fault_of, told_of, withheld_told, FindsUnlessWithheld, FoundBehindLook, HadNothing, HasNothingInTheWay, ServesOrWithholds, TellsOf, bytes_of, code_told}
+use Rattle.gm_front.proofs.Common.{◌≡◌, inl, inr, refl, ap, subst, ℕ, List, Option, Result, Ok, Err, IfSome, IfOk, IfErr, OnErr, Appends, Ghosts, Held, Image, Command, World, Asks, code_of, registry_of, shelf_of, LeavesRun, one_call, LeavesOnly, Bench, FrontFault, Memory, Read, Write, Finding, Response, AppendsFront, Carry, Demand, Told, demand_of, IsPut, fault_of, told_of, withheld_told, FindsUnlessWithheld, FoundBehindLook, HadNothing, HasNothingInTheWay, ServesOrWithholds, TellsOf, bytes_of, code_told}
 use Rattle.gm_shelf.specs.declared.shelf.Shelf.{Ghosts as ShelfGhosts}
 use Rattle.gm_http.specs.Requests.{Asked}
 use Rattle.gm_front.specs.declared.finding.Finding.TheVariants as finding
@@ -9,7 +9,7 @@ use Rattle.gm_front.proofs.RequestsServed.{served}
 pub run_of_look : {S H : Type 0} (g : Ghosts S) (j : ShelfGhosts H) (r s : Held S)
     (h k : H) (away : Image) (u : World) (key : List ℕ) (c : Command)
     → LeavesOnly g j r s h k away u u → j.size k ≡ j.size h
-    → LeavesRun g j r s h k away u u key c
+    → LeavesRun g j r s h k away u u (one_call key c)
 run_of_look g j r s h k away u key c left same = record {
   registry = s;
   shelf = k;

@@ -14,6 +14,7 @@ use Rattle.gm_rules.specs.AbstractCalls as run
 use Rattle.gm_registry.specs.Fitting.{HasRoom}
 use Rattle.gm_registry.specs.Registry.{DiskKept, StoreFailed, seen}
 use Rattle.gm_registry.specs.Replies.{AreWrittenUnder}
+use Rattle.gm_bench.specs.Accepting.{one_call}
 use Rattle.gm_bench.specs.Benches.{progress_of, registry_of, shelf_of}
 use Rattle.gm_bench.specs.Calls.{Keep, most_rows}
 use Rattle.gm_bench.specs.Phases.{TakesCommands, TakesNext, phase_of}
@@ -206,7 +207,8 @@ module _ {S H : Type 0} (g : Ghosts S) (j : ShelfGhosts H) where
     pub asks : asked line ≡ Call key command
     pub answered : AreCarriedOut registry shelf away u lines text refused
     pub told : Told (text ++ fault_line key fault)
-    pub left : LeavesNext g j registry s shelf k away answered.before answered.world key command
+    pub left : LeavesNext g j registry s shelf k away answered.before answered.world
+        (one_call key command)
     pub disk : fault ≡ Disk → (j.view shelf).faults < (j.view k).faults
     pub store : fault ≡ Store → HasRoom most_rows (seen g registry) → StoreFailed g registry s
     pub readable : fault ≡ Unreadable → AreWrittenUnder key answered.at.tables → ⊥

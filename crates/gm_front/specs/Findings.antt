@@ -13,6 +13,7 @@ use Rattle.gm_registry.specs.Replies.{AreWrittenUnder}
 use Rattle.gm_looks.specs.declared.unlike.Unlike.{Unlike}
 use Rattle.gm_bench.specs.declared.fault.BenchFault.{BenchFault}
 use Rattle.gm_bench.specs.declared.fault.BenchFault.TheVariants.{Disk, Store, Unreadable}
+use Rattle.gm_bench.specs.Accepting.{one_call}
 use Rattle.gm_bench.specs.Benches.{progress_of, registry_of, shelf_of}
 use Rattle.gm_bench.specs.Calls.{Keep, most_rows}
 use Rattle.gm_bench.specs.Phases.{TakesCommands}
@@ -113,7 +114,7 @@ module _ {S H : Type 0} (g : Ghosts S) (j : ShelfGhosts H) where
   -- what leads on as before
   abbrev pub LeavesDemand : Held S → Held S → H → H → Image → World → Demand → Type 0
   LeavesDemand r s h k away u (Carry key command) =
-      LeavesRun g j r s h k away u u key command
+      LeavesRun g j r s h k away u u (one_call key command)
   LeavesDemand r s h k away u _ = LeavesOnly g j r s h k away u u
 
   -- The bench failed at the demand: what that may have left, that a failure of the disk was

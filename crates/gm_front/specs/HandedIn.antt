@@ -15,10 +15,11 @@ use Rattle.gm_bench.specs.Standing.{LeavesNext}
 use Rattle.gm_state.specs.declared.intents.Intent.{Intent}
 use Rattle.gm_state.specs.World.{World}
 
--- entries, the newest first, after which these calls were handed in one after another
+-- entries, the newest first, after which these calls were handed in one after another, each in a
+-- commit of its own
 abbrev pub with_calls : List run.Call → List Entry → List Entry
 with_calls [] entries = entries
-with_calls (call ∷ calls) entries = with_calls calls (Handed_in call ∷ entries)
+with_calls (call ∷ calls) entries = with_calls calls (Handed_in (call ∷ []) ∷ entries)
 
 module _ {S H : Type 0} (g : Ghosts S) (j : ShelfGhosts H) (all : Sizes) where
   -- Some of the calls that were handed in are done, and the bench is at rest after them.
@@ -32,9 +33,10 @@ module _ {S H : Type 0} (g : Ghosts S) (j : ShelfGhosts H) (all : Sizes) where
   -- stop leaves leads on, with the call or without.
   pub record IsStoppedAt (call : run.Call) (r s : Held S) (h k : H) (away : Image)
       (acc ack : List Entry) (rest : AtRest g j all r h away acc ack) : Type 0 where
-    pub left : LeavesRun g j r s h k away rest.world rest.world call.key call.command
-    pub leads : (db : Trees) (l : H) (after : List Entry) → IsLeftIn db (Handed_in call) acc after
-        → IsRunStop g j r s h k away rest.world rest.world call left db l
+    pub left : LeavesRun g j r s h k away rest.world rest.world (call ∷ [])
+    pub leads : (db : Trees) (l : H) (after : List Entry)
+        → IsLeftIn db (Handed_in (call ∷ [])) acc after
+        → IsRunStop g j r s h k away rest.world rest.world (call ∷ []) left db l
         → Stopped g j all db l away after ack
 
   -- Some of the calls that were handed in are done and carried out; the last of them is perhaps
@@ -55,9 +57,9 @@ module _ {S H : Type 0} (g : Ghosts S) (j : ShelfGhosts H) (all : Sizes) where
   -- one store and one shelf that a stop leaves within a call that is handed in and then settled, or
   -- within the settling of the last one after it
   abbrev pub IsNextStop : (r s : Held S) (h k : H) (away : Image) (v u : World) (call : run.Call)
-      → LeavesNext g j r s h k away v u call.key call.command → Trees → H → Type 0
+      → LeavesNext g j r s h k away v u (call ∷ []) → Trees → H → Type 0
   IsNextStop r s h k away v u call (inl it) db l =
-      IsRunStop g j r s h k away v u call it db l
+      IsRunStop g j r s h k away v u (call ∷ []) it db l
   IsNextStop r s h k away v u call (inr it) db l =
       IsStop g j r it.registry h it.shelf db l
       ⊎ IsStop g j it.registry s it.shelf k db l
@@ -66,8 +68,9 @@ module _ {S H : Type 0} (g : Ghosts S) (j : ShelfGhosts H) (all : Sizes) where
   -- with that call or without.
   pub record IsStoppedNext (call : run.Call) (r s : Held S) (h k : H) (away : Image) (v u : World)
       (acc ack : List Entry) : Type 0 where
-    pub left : LeavesNext g j r s h k away v u call.key call.command
-    pub leads : (db : Trees) (l : H) (after : List Entry) → IsLeftIn db (Handed_in call) acc after
+    pub left : LeavesNext g j r s h k away v u (call ∷ [])
+    pub leads : (db : Trees) (l : H) (after : List Entry)
+        → IsLeftIn db (Handed_in (call ∷ [])) acc after
         → IsNextStop r s h k away v u call left db l
         → Stopped g j all db l away after ack
 

@@ -9,6 +9,7 @@ use Rattle.gm_state.specs.World.{World}
 use Rattle.gm_registry.specs.Fitting.{HasRoom}
 use Rattle.gm_registry.specs.Registry.{StoreFailed, seen}
 use Rattle.gm_registry.specs.Replies.{AreWrittenUnder}
+use Rattle.gm_bench.specs.Accepting.{one_call}
 use Rattle.gm_bench.specs.Calls.{most_rows}
 use Rattle.gm_bench.specs.declared.fault.BenchFault.{BenchFault}
 use Rattle.gm_bench.specs.declared.fault.BenchFault.TheVariants.{Disk, Store, Unreadable}
@@ -60,7 +61,7 @@ module _ {S H : Type 0} (g : Ghosts S) (j : ShelfGhosts H) where
   -- store failed if it is told, and that what this program wrote was read.
   pub record FailsAt (r s : Held S) (h k : H) (away : Image) (u : World) (key : List ℕ)
       (command : Command) (fault : BenchFault) : Type 0 where
-    pub left : LeavesRun g j r s h k away u u key command
+    pub left : LeavesRun g j r s h k away u u (one_call key command)
     pub disk : fault ≡ Disk → (j.view h).faults < (j.view k).faults
     pub store : fault ≡ Store → HasRoom most_rows (seen g r) → StoreFailed g r s
     pub readable : fault ≡ Unreadable → (at : IsAt g j r h away [] [] u u)
@@ -91,7 +92,7 @@ module _ {S H : Type 0} (g : Ghosts S) (j : ShelfGhosts H) where
   -- A command that failed at a bench that stood for u, and v was before.
   pub record FailsNext (r s : Held S) (h k : H) (away : Image) (v u : World) (key : List ℕ)
       (command : Command) (fault : BenchFault) : Type 0 where
-    pub left : LeavesNext g j r s h k away v u key command
+    pub left : LeavesNext g j r s h k away v u (one_call key command)
     pub disk : fault ≡ Disk → (j.view h).faults < (j.view k).faults
     pub store : fault ≡ Store → HasRoom most_rows (seen g r) → StoreFailed g r s
     pub readable : fault ≡ Unreadable → (ts : List Intent) (bytes : List (List ℕ))

@@ -50,7 +50,7 @@ pub use Rattle.std.specs.Cmp.{IsStrictWeakOrder}
 pub use Rattle.std.specs.List.{AllByRecursion, Any, list_all, AllZip, list_any}
 pub use Rattle.std.specs.List.Sorted.{IsSortedBy}
 pub use Rattle.std.specs.Ordering.{is_eq, int_cmp, is_lt}
-pub use Rattle.std.specs.Prelude.{⊤, slice_index_or}
+pub use Rattle.std.specs.Prelude.{⊤, slice_index_or, string_bytes}
 pub use Rattle.sqlite.specs.declared.{error.Error.Error, types.Value.Value, types.Value.TheVariants.Null, types.Value.TheVariants.Int, types.Value.TheVariants.Real, types.Value.TheVariants.Text, types.Value.TheVariants.Blob}
 pub use Rattle.sqlite_schema.specs.declared.{schema.Constraint.TheVariants.Datatype, schema.Constraint.TheVariants.Unique, schema.Constraint.TheVariants.ForeignKey, schema.Constraint.TheVariants.Check, schema.Constraint.TheVariants.NotNull, schema.Index.Index, schema.Keys.TheVariants.Enforced}
 pub use Rattle.sqlite_sql.specs.declared.{ops.BinaryOp.TheVariants.Compare, ops.BinaryOp.TheVariants.Is, ops.CompareOp.TheVariants.Eq}
@@ -68,6 +68,7 @@ pub use Rattle.gm_state.proofs.Suffixes.{IsLeft, passed_over}
 pub use Rattle.gm_state.specs.declared.{intents.Intent.Intent, intents.Intent.TheVariants.Meta, intents.Intent.TheVariants.Clear, intents.Intent.TheVariants.Copy, intents.Intent.TheVariants.Dirty, intents.Intent.TheVariants.Patch, records.Component.Component, records.Mirror.Mirror}
 pub use Rattle.gm_refusals.proofs.Common.{providers_of, is_called, is_asked, part_of}
 pub use Rattle.gm_changes.proofs.Common.{Changed, PutsInPlace, changed_by, put_some, without_some}
+pub use Rattle.gm_changes.specs.declared.{change.Further.Further}
 pub use Rattle.sqlite_rows.proofs.Common.{HasReadOver, columns, whole, TakesMore, LeavesAlone, HasFailedOver}
 pub use Rattle.sqlite_rows.proofs.Bags.{keeps_none, keeps_put, keeps_without, key_place, has_key, keeps_same, keeps_filter}
 pub use Rattle.sqlite_rows.proofs.Dropping.{clears, none_left, drops}
@@ -96,9 +97,9 @@ pub use Rattle.gm_rows.proofs.RowsSayRecords.{one_blob, one_mirror, one_componen
 pub use Rattle.gm_rows.proofs.RowsSayTables.{again_shown, text_in, number_in, rows_numbered, mirrors_shown, components_shown, said, nine_picked, says_tables, tables_said, any_tables, any_rows}
 pub use Rattle.gm_rows.proofs.TypedRecords.{mirror_value, component_value}
 pub use Rattle.gm_rows.specs.declared.{command_numbers.CommandNumber.TheVariants.Count, command_numbers.CommandNumber.TheVariants.Least, command_numbers.CommandNumber.TheVariants.Greatest, fault.StoreFault.TheVariants.Memory, fault.StoreFault.TheVariants.Store, fetched.Table.TheVariants.About, fetched.Table.TheVariants.Mirrors, fetched.Table.TheVariants.Components, fetched.Table.TheVariants.Intents, fetched.Table.TheVariants.Patches}
-pub use Rattle.gm_registry.specs.Changes.{mirror_key, component_key, without_mirror, with_mirror, without_component, with_component, with_intents, with_command, with_patch, without_intents, without_bytes, with_some_mirror, without_components, left_of, with_records, with_change, settled, command_row, with_components, with_bytes, with_pending, without_some_mirror, with_accepted, changed_in, with_entry, row_under, row_of_kind}
-pub use Rattle.gm_registry.specs.Fitting.{HasFreeNumber, HasNoComponents, IsPlaced, TakesCommand, TakesComponent, HasRoom, IsUncounted, TakesBytes, TakesIntents, TakesMirror, IsUnnumbered, AreShort, TakesPatch}
-pub use Rattle.gm_registry.specs.FittingChanges.{ArePlacedInTurn, FitsRecords, without_gone, FitsTables, rows_in}
+pub use Rattle.gm_registry.specs.Changes.{mirror_key, component_key, without_mirror, with_mirror, without_component, with_component, with_intents, with_command, with_further, with_patch, without_intents, without_bytes, with_some_mirror, without_components, left_of, with_records, with_change, settled, command_row, with_components, with_bytes, with_pending, without_some_mirror, with_accepted, changed_in, with_entry, row_under, row_of_kind}
+pub use Rattle.gm_registry.specs.Fitting.{HasFreeNumber, HasNoComponents, IsPlaced, TakesCommand, TakesComponent, HasRoom, IsUncounted, TakesBytes, TakesIntents, TakesNumbers, TakesMirror, IsUnnumbered, AreShort, TakesPatch}
+pub use Rattle.gm_registry.specs.FittingChanges.{AreFreeInTurn, ArePlacedInTurn, FitsEntry, FitsRecords, IsFreeUnderFurther, TakesFurther, without_gone, FitsTables, rows_in}
 pub use Rattle.gm_registry.specs.Keys.{under, row_is_under, AreUnder, shown_under, key_text, key_column}
 pub use Rattle.gm_registry.specs.Listing.{ShowsList, listed, under_number, tables_of, AllStand, Lists}
 pub use Rattle.gm_registry.specs.Opening.{schema_of, about_numbers, IsNumbered, IsAsBefore, IsBeingMade, IsCarriedOver, IsFirstInside, IsOfRegistry, SeesFirstRegistry, SeesFirstStore, HasAbout, HasOurTables, IsKnownStore, no_rows, IsBlank, IsBlankInside, IsInsideOver, IsForeign, IsOfEdition}

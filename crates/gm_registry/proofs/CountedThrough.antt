@@ -1,8 +1,8 @@
 -- The numbers of the commands through a change.
-use Rattle.gm_registry.proofs.Common.{◌≡◌, ℕ, suc, ◌+◌, true, List, ◌∷◌, map, length, refl, sym, ap, subst, ◌∙◌, arith, IsPermutation, IsPermutation-cons, Database, State, Held, state, inside_as, begun, Tables, CommandRow, Changed, registry_schema, HasRows, HasCounted, SeesTables, IsInside, AreNumbered, numbers_of, Pending, Stays, Goes, left_of, with_records, with_change, settled, command_row, count_of}
+use Rattle.gm_registry.proofs.Common.{◌≡◌, ℕ, suc, ◌+◌, true, List, [], ◌∷◌, map, length, refl, sym, ap, subst, arith, IsPermutation, IsPermutation-cons, Database, State, Held, state, inside_as, begun, Tables, CommandRow, Changed, Further, string_bytes, registry_schema, HasRows, HasCounted, SeesTables, IsInside, AreNumbered, numbers_of, Pending, Stays, Goes, left_of, with_records, with_change, settled, command_row, count_of}
 use Rattle.sqlite_trees.specs.declared.store.Store as store
 use Rattle.sqlite_rows.specs.Calls.{IsInside as IsInsideBy}
-use Rattle.gm_registry.proofs.Written.{with_records_is}
+use Rattle.gm_registry.proofs.Written.{commands_with, further_rows, with_records_is}
 
 -- one command more, under the next number
 more_numbered : (c : CommandRow) (commands : List CommandRow) → c.seq ≡ length commands + 1
@@ -18,15 +18,24 @@ more_numbered c commands next numbered =
 pub records_keep : (ch : Changed) (t : Tables) → (with_records ch t).commands ≡ t.commands
 records_keep ch t = ap (λ (a : Tables). a.commands) (with_records_is ch t)
 
+-- so do they under further keys, by the next numbers
+rows_numbered : (fs : List Further) (n : ℕ) (words : List ℕ) (rows : List CommandRow)
+    → n ≡ length rows + 1 → AreNumbered rows → AreNumbered (further_rows fs n words rows)
+rows_numbered [] n words rows next numbered = numbered
+rows_numbered (f ∷ more) n words rows next numbered =
+    let first = command_row (string_bytes f.key) n words f.reply in
+    rows_numbered more (n + 1) words (first ∷ rows) (omega (arith, next))
+    (more_numbered first rows next numbered)
+
 -- the numbers go on without a gap
 pub change_numbered : (ch : Changed) (key : List ℕ) (n : ℕ) (words : List ℕ) (t : Tables)
     → n ≡ count_of t + 1 → AreNumbered t.commands
     → AreNumbered (with_change ch key n words t).commands
 change_numbered ch key n words t next numbered =
-    let same = records_keep ch t in
-    more_numbered (command_row key n words ch.reply) (with_records ch t).commands
-    (next ∙ ap (λ (l : List CommandRow). length l + 1) (sym same))
-    (subst AreNumbered (sym same) numbered)
+    let first = command_row key n words ch.reply in
+    subst AreNumbered (sym (commands_with ch key n words t))
+    (rows_numbered ch.further (n + 1) words (first ∷ t.commands) (omega (arith, next))
+    (more_numbered first t.commands next numbered))
 
 -- what becomes of the intents leaves the commands
 pub left_commands : (p : Pending) (t : Tables) → (left_of p t).commands ≡ t.commands

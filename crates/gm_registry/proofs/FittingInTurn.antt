@@ -1,5 +1,5 @@
 -- From what a change needs of the tables to what each of its steps needs.
-use Rattle.gm_registry.proofs.Common.{◌≡◌, ◌≢◌, ◌∙◌, inl, inr, ⊎_elim, ℕ, zero, suc, ◌+◌, ◌<◌, ◌≤◌, List, [], ◌∷◌, filter, length, take, get_or, Option, Some, None, IfSome, sym, ap, subst, arith, AllByRecursion, length-take-le, Trees, all_from, Mirror, Component, Intent, Tables, IntentRow, CommandRow, mirror_row, component_row, intent_rows, Changed, AreNumbered, Pending, left_of, with_component, with_bytes, with_components, with_intents, with_pending, with_records, HasFreeNumber, HasRoom, IsPlaced, IsUncounted, TakesBytes, TakesCommand, TakesIntents, TakesMirror, ArePlacedInTurn, FitsRecords, FitsTables, count_of, is_under}
+use Rattle.gm_registry.proofs.Common.{◌≡◌, ◌≢◌, ◌∙◌, inl, inr, ⊎_elim, ℕ, zero, suc, ◌+◌, ◌<◌, ◌≤◌, List, [], ◌∷◌, filter, length, take, get_or, Option, Some, None, IfSome, sym, ap, subst, arith, AllByRecursion, length-take-le, Trees, all_from, Mirror, Component, Intent, Tables, IntentRow, CommandRow, mirror_row, component_row, intent_rows, Changed, AreNumbered, Pending, left_of, with_component, with_bytes, with_components, with_intents, with_pending, with_records, HasFreeNumber, HasRoom, IsPlaced, IsUncounted, TakesBytes, TakesCommand, TakesIntents, TakesMirror, TakesNumbers, ◌^◌, ArePlacedInTurn, FitsRecords, FitsTables, count_of, is_under}
 use Rattle.gm_registry.proofs.CountedThrough.{left_commands, records_keep}
 use Rattle.gm_registry.proofs.LastCommand.{seq_in_range}
 use Rattle.gm_registry.proofs.Written.{with_records_is}
@@ -48,19 +48,24 @@ takes_behind ch n t takes = record {
       (sym (ap (λ (a : Tables). a.intents) (with_records_is ch t))) (takes.free k low high);
 }
 
--- the next number is free
-pub next_uncounted : (n : ℕ) (t : Tables) → AreNumbered t.commands → n ≡ count_of t + 1
-    → IsUncounted n t
-next_uncounted n t numbered next =
-    all_from _ t.commands (λ c has same.
-    omega (arith, seq_in_range t.commands numbered c has, next, same))
+-- the next numbers are free
+pub next_numbers : (n count : ℕ) (t : Tables) → AreNumbered t.commands → n ≡ count_of t + 1
+    → n + count ≤ 2 ^ 32 → TakesNumbers n count t
+next_numbers n count t numbered next few = record {
+  few = few;
+  free = λ k low high. all_from _ t.commands (λ c has same.
+      omega (arith, seq_in_range t.commands numbered c has, next, low, same));
+}
 
--- what becomes of the intents leaves it free
-pub left_uncounted : (n : ℕ) (p : Pending) (t : Tables) → IsUncounted n t
-    → IsUncounted n (left_of p t)
-left_uncounted n p t free =
-    subst (λ (l : List CommandRow). AllByRecursion (λ (c : CommandRow). c.seq ≢ n) l)
-    (sym (left_commands p t)) free
+-- what becomes of the intents leaves them free
+pub left_numbers : (n count : ℕ) (p : Pending) (t : Tables) → TakesNumbers n count t
+    → TakesNumbers n count (left_of p t)
+left_numbers n count p t takes = record {
+  few = takes.few;
+  free = λ k low high. subst
+      (λ (l : List CommandRow). AllByRecursion (λ (c : CommandRow). c.seq ≢ k) l)
+      (sym (left_commands p t)) (takes.free k low high);
+}
 
 -- and the bytes
 pub takes_bytes : (ch : Changed) (more : List IntentRow) (bytes : List (List ℕ)) (t : Tables)

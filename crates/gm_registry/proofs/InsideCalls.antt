@@ -140,6 +140,20 @@ module _ {S : Type 0} (g : Ghosts S) where
         survives = lasts registry_schema HasRows a b c change so.turn.made it.survives;
       }
 
+  -- a refusal after others, over what doesn't fit
+  pub then_stops : {X : Type 0} {old new : Transaction S} {change : Tables → Tables} {n : ℕ}
+      (e : Error) (after : Tables → Tables) (Fits : Trees → Tables → Type 0) (total : ℕ)
+      → Did old new change n → ((t : Tables) → Fits (seen g old.conn.now) t → ⊥)
+      → ChangesInside g {X = X} old new (Err e) after Fits total
+  then_stops {X} {old} {new} {change} {n} e after Fits total so never = record {
+    same_reference = so.same_reference;
+    put = λ _. tt;
+    fails = λ clean is first t was fits. absurd (never t fits);
+    numbers = λ _. tt;
+    kept = so.turn.made.kept;
+    survives = so.turn.made.survives;
+  }
+
   -- the last call after others
   pub then_does : {X : Type 0} {old mid new : Transaction S} {change further : Tables → Tables}
       {Now : Trees → Tables → Type 0} {n count : ℕ} (x : Result X Error)

@@ -15,6 +15,7 @@ pub mod FittingClears
 pub mod FittingCommands
 pub mod FittingComponents
 pub mod FittingDeletes
+pub mod FittingFurther
 pub mod FittingInTurn
 pub mod FittingIntents
 pub mod FittingMirrors
@@ -27,6 +28,7 @@ pub mod InsideCalls
 pub mod InsideFails
 pub mod Keys
 pub mod LastCommand
+pub mod ListSteps
 pub mod MadeTables
 pub mod MakingFails
 pub mod NumberQueries

@@ -1,5 +1,5 @@
 -- The tables with a change hold the rows of the records with it.
-use Rattle.gm_registry.proofs.Common.{◌≡◌, ◌∙◌, inl, inr, ℕ, ◌+◌, true, false, not, List, [], ◌∷◌, ◌++◌, map, filter, length, Option, Some, None, refl, sym, ap, subst, arith, cases_Bool, IsPermutation-refl, IsPermutation-trans, IsPermutation-cons, IsPermutation-map, IsPermutation-swap, filter-map, IsPermutation-filter, Mirror, Component, Has, Ascends, label_lt, put, put_all, without, without_all, Records, IsState, name, provider, Tables, MirrorRow, ComponentRow, mirror_row, component_row, intent_rows, patch_rows, same_is, same_from, lt_differ, lt_trans, Ascends-put, filter_id, Ascends-filter, Changed, put_some, without_some, changed_by, HoldState, without_gone, mirror_key, component_key, without_component, with_component, without_some_mirror, with_some_mirror, without_components, with_components, with_intents, with_bytes, with_records, with_command, command_row, with_change, with_accepted}
+use Rattle.gm_registry.proofs.Common.{◌≡◌, ◌∙◌, inl, inr, ℕ, ◌+◌, true, false, not, List, [], ◌∷◌, ◌++◌, map, filter, length, Option, Some, None, refl, sym, ap, subst, arith, cases_Bool, IsPermutation-refl, IsPermutation-trans, IsPermutation-cons, IsPermutation-map, IsPermutation-swap, filter-map, IsPermutation-filter, Mirror, Component, Has, Ascends, label_lt, put, put_all, without, without_all, Records, IsState, name, provider, Tables, MirrorRow, ComponentRow, CommandRow, mirror_row, component_row, intent_rows, patch_rows, same_is, same_from, lt_differ, lt_trans, Ascends-put, filter_id, Ascends-filter, Changed, Further, string_bytes, put_some, without_some, changed_by, HoldState, without_gone, mirror_key, component_key, without_component, with_component, without_some_mirror, with_some_mirror, without_components, with_components, with_intents, with_bytes, with_records, with_command, with_further, command_row, with_change, with_accepted}
 use Rattle.std.specs.List.Sorted.{IsPermutation}
 use Rattle.std.specs.Str.{bytes_eq}
 use Rattle.gm_lists.proofs.Order.{differ}
@@ -231,24 +231,49 @@ module _ (ch : Changed) (s : Records) (t : Tables) (held : HoldState s t) where
         components = left_held.components;
       })
 
--- the tables of the whole change
+-- ---- the command under its further keys
+
+-- the rows of a command under further keys, the last of them first, before these
+abbrev pub further_rows : List Further → ℕ → List ℕ → List CommandRow → List CommandRow
+further_rows [] n words rows = rows
+further_rows (f ∷ more) n words rows =
+    further_rows more (n + 1) words (command_row (string_bytes f.key) n words f.reply ∷ rows)
+
+pub with_further_is : (fs : List Further) (n : ℕ) (words : List ℕ) (t : Tables)
+    → with_further fs n words t ≡ record t { commands = further_rows fs n words t.commands }
+with_further_is [] n words t = refl
+with_further_is (f ∷ more) n words t =
+    with_further_is more (n + 1) words
+    (with_command (command_row (string_bytes f.key) n words f.reply) t)
+
+-- ---- the whole change
+
+-- the rows of its command, before these
+abbrev pub command_rows : Changed → List ℕ → ℕ → List ℕ → List CommandRow → List CommandRow
+command_rows ch key n words rows =
+    further_rows ch.further (n + 1) words (command_row key n words ch.reply ∷ rows)
+
 abbrev committed : Changed → List ℕ → ℕ → List ℕ → Tables → Tables
 committed ch key n words t = record {
   mirrors = (written ch t).mirrors;
   components = (written ch t).components;
   intents = intent_rows 1 ch.intents ++ t.intents;
-  commands = command_row key n words ch.reply ∷ t.commands;
+  commands = command_rows ch key n words t.commands;
   patches = patch_rows ch.bytes ++ t.patches;
 }
 
 with_change_is : (ch : Changed) (key : List ℕ) (n : ℕ) (words : List ℕ) (t : Tables)
     → with_change ch key n words t ≡ committed ch key n words t
 with_change_is ch key n words t =
-    ap (λ (s : Tables). with_command (command_row key n words ch.reply)
-    (with_bytes ch.bytes (with_intents (intent_rows 1 ch.intents) s))) (with_records_is ch t)
+    ap (λ (s : Tables). with_further ch.further (n + 1) words
+    (with_command (command_row key n words ch.reply)
+    (with_bytes ch.bytes (with_intents (intent_rows 1 ch.intents) s)))) (with_records_is ch t)
+    ∙ with_further_is ch.further (n + 1) words
+    (with_command (command_row key n words ch.reply)
+    (with_bytes ch.bytes (with_intents (intent_rows 1 ch.intents) (written ch t))))
 
 pub commands_with : (ch : Changed) (key : List ℕ) (n : ℕ) (words : List ℕ) (t : Tables)
-    → (with_change ch key n words t).commands ≡ command_row key n words ch.reply ∷ t.commands
+    → (with_change ch key n words t).commands ≡ command_rows ch key n words t.commands
 commands_with ch key n words t = ap (λ (a : Tables). a.commands) (with_change_is ch key n words t)
 
 pub change_held : (ch : Changed) (key words : List ℕ) (s : Records) (t : Tables) → IsState s
@@ -272,6 +297,13 @@ change_patches ch key words t =
     ap (λ (a : Tables). a.patches) (with_change_is ch key (length t.commands + 1) words t)
 
 pub change_commands : (ch : Changed) (key words : List ℕ) (t : Tables)
-    → (with_accepted ch key words t).commands ≡ command_row key
-    (length t.commands + 1) words ch.reply ∷ t.commands
-change_commands ch key words t = commands_with ch key (length t.commands + 1) words t
+    → (with_accepted ch key words t).commands
+    ≡ (with_further ch.further (length t.commands + 2) words
+    (with_command (command_row key (length t.commands + 1) words ch.reply) t)).commands
+change_commands ch key words t =
+    let first = command_row key (length t.commands + 1) words ch.reply in
+    let next : length t.commands + 1 + 1 ≡ length t.commands + 2 = omega arith in
+    commands_with ch key (length t.commands + 1) words t
+    ∙ (ap (λ n. further_rows ch.further n words (first ∷ t.commands)) next
+    ∙ sym (ap (λ (a : Tables). a.commands)
+    (with_further_is ch.further (length t.commands + 2) words (with_command first t))))

@@ -1,5 +1,6 @@
 -- What a command and its end make of the tables.
 use Rattle.std.specs.Prelude.{◌≡◌, ℕ, ◌+◌, length, List, [], ◌∷◌, ◌++◌, Option, Some, None}
+use Rattle.std.specs.String.{string_bytes}
 use Rattle.gm_state.specs.declared.records.Mirror.{Mirror}
 use Rattle.gm_state.specs.declared.records.Component.{Component}
 use Rattle.gm_state.specs.declared.intents.Intent.{Intent}
@@ -7,6 +8,7 @@ use Rattle.gm_state.specs.declared.intents.Reply.{Reply}
 use Rattle.gm_lists.specs.Ordered.{without}
 use Rattle.gm_state.specs.Records.{Records, IsState}
 use Rattle.gm_state.specs.Rows.{Tables, MirrorRow, ComponentRow, CommandRow, IntentRow, mirror_row, component_row, intent_rows, patch_rows, copied_of, total_of}
+use Rattle.gm_changes.specs.declared.change.Further.{Further}
 use Rattle.gm_changes.specs.Decides.{Changed, changed_by}
 use Rattle.gm_rows.specs.ReadableTables.{HoldState}
 use Rattle.gm_registry.specs.declared.accept.Entry.{Entry}
@@ -102,12 +104,19 @@ abbrev pub command_row : List ℕ → ℕ → List ℕ → Reply → CommandRow
 command_row key number words reply =
     row_under key number words (copied_of reply) (total_of reply)
 
+-- the command under each further key as well, numbered on from this number
+abbrev pub with_further : List Further → ℕ → List ℕ → Tables → Tables
+with_further [] number words t = t
+with_further (f ∷ more) number words t = with_further more (number + 1) words
+    (with_command (command_row (string_bytes f.key) number words f.reply) t)
+
 -- the tables with the change: its records, its intents, numbered from 1, the bytes that they lay,
--- and the command under its key
+-- and the command under its key and its further ones
 abbrev pub with_change : Changed → List ℕ → ℕ → List ℕ → Tables → Tables
 with_change ch key number words t =
-    with_command (command_row key number words ch.reply)
-    (with_bytes ch.bytes (with_intents (intent_rows 1 ch.intents) (with_records ch t)))
+    with_further ch.further (number + 1) words
+    (with_command (command_row key number words ch.reply)
+    (with_bytes ch.bytes (with_intents (intent_rows 1 ch.intents) (with_records ch t))))
 
 -- the same under the next number
 abbrev pub with_accepted : Changed → List ℕ → List ℕ → Tables → Tables
@@ -148,6 +157,6 @@ pub record HoldsChange (ch : Changed) (key words : List ℕ) (old new : Tables) 
   pub intents : new.intents ≡ intent_rows 1 ch.intents ++ old.intents
   -- and its bytes before theirs
   pub patches : new.patches ≡ patch_rows ch.bytes ++ old.patches
-  -- the command stands under its key, by the next number
-  pub commands : new.commands
-      ≡ command_row key (length old.commands + 1) words ch.reply ∷ old.commands
+  -- the command is there under its key, by the next number, and then under its further ones
+  pub commands : new.commands ≡ (with_further ch.further (length old.commands + 2) words
+      (with_command (command_row key (length old.commands + 1) words ch.reply) old)).commands

@@ -65,6 +65,11 @@ pub record TakesBytes (bytes : List (List ℕ)) (t : Tables) : Type 0 where
 abbrev pub IsUncounted : ℕ → Tables → Type 0
 IsUncounted n t = AllByRecursion (λ (c : CommandRow). c.seq ≢ n) t.commands
 
+-- so many commands can be numbered from this number on
+pub record TakesNumbers (number count : ℕ) (t : Tables) : Type 0 where
+  pub few : number + count ≤ 2 ^ 32
+  pub free : (k : ℕ) → number ≤ k → k < number + count → IsUncounted k t
+
 -- a command can be added under this key and number, with these words
 pub record TakesCommand (key words : List ℕ) (number : ℕ) (db : Trees) (t : Tables) : Type 0 where
   pub key_free : IsFree t key

@@ -1,7 +1,7 @@
-//! A command's change, with its intents, its bytes and its key, in one transaction; also in place
+//! A command's change, with its intents, its bytes and its keys, in one transaction; also in place
 //! of what is pending.
 
-ghost use Rattle.std.specs.Prelude.{◌≡◌, ◌+◌, ◌↔◌, length, IfSome, IsTrue};
+ghost use Rattle.std.specs.Prelude.{◌≡◌, ◌+◌, ◌<◌, ◌≤◌, ◌^◌, ◌↔◌, length, IfSome, IsTrue};
 ghost use Rattle.gm_state.specs.Rows.{mirror_row};
 ghost use Rattle.gm_registry.specs.Fitting.{HasNoComponents, HasRoom, TakesMirror};
 ghost use Rattle.gm_registry.specs.FittingChanges.{rows_in, FitsEntry, FitsRecords, FitsTables};
@@ -9,15 +9,15 @@ ghost use Rattle.gm_state.specs.World.{ReplyFits};
 ghost use Rattle.gm_registry.specs.Replies.{count_of};
 ghost use Rattle.gm_registry.specs.Changes.{with_entry, changed_in, left_of, with_accepted, with_records, without_some_mirror, with_some_mirror};
 ghost use Rattle.gm_registry.specs.Registry.{WritesGiven, ChangesInside, Writes};
-ghost use Rattle.gm_registry.specs.Accepting.{Accepts};
+ghost use Rattle.gm_registry.specs.Accepting.{Accepts, RepliesFit};
 
-use crate::commands::put_command;
+use crate::commands::{put_command, put_further};
 use crate::components::{drop_components, put_components};
 use crate::intents::{Pending, drop_pending, put_intents};
 use crate::mirrors::{drop_mirror, put_mirror};
 use crate::patches::put_bytes;
 use crate::replies::accepted_on;
-use gm_changes::Change;
+use gm_changes::{Change, Further};
 use gm_commands::MAX_COMMANDS;
 use gm_metadata::Label;
 use gm_rows::StoreFault;
@@ -63,7 +63,7 @@ fn put_records<S: Alter>(tx: &mut Transaction<'_, S>, change: &Change) -> Result
 }
 
 /// A command as it is written: its change, with these intents and bytes in place of the change's
-/// own, its key and its words.
+/// own, its first key and its words.
 #[derive(Clone, Copy)]
 pub(crate) struct Entry<'a> {
     pub(crate) change: &'a Change,
@@ -73,7 +73,7 @@ pub(crate) struct Entry<'a> {
     pub(crate) words: &'a str,
 }
 
-/// Writes a command under its number.
+/// Writes a command under its number, and under the next ones by its further keys.
 fn put_entry<S: Alter>(
     tx: &mut Transaction<'_, S>,
     entry: &Entry<'_>,
@@ -86,7 +86,7 @@ fn put_entry<S: Alter>(
     put_intents(tx, entry.intents)?;
     put_bytes(tx, entry.bytes)?;
     put_command(tx, entry.key, number, entry.words, entry.change.reply())?;
-    Ok(())
+    put_further(tx, entry.change.further(), number, entry.words)
 }
 
 /// The same after what becomes of what is pending.
@@ -114,7 +114,8 @@ fn write_entry<S: Alter>(
     ensures { WritesGiven S.Store conn.old conn.new result (λ t. number ≡ count_of t + 1)
         (λ t. with_entry entry.now number (left_of pending t))
         (λ db t. FitsTables (changed_in entry.now) entry.now.key.now entry.now.words.now
-        (left_of pending t) × HasRoom (rows_in entry.now) db) }
+        (left_of pending t) × (number + length entry.now.change.now.further + 1 ≤ 2 ^ 32)
+        × HasRoom (rows_in entry.now) db) }
 {
     if !conn.is_autocommit() {
         return Err(Error::SqliteFailure(ErrorCode::TransactionState));
@@ -134,8 +135,31 @@ fn is_in_range(reply: Reply) -> bool
     }
 }
 
-/// Accepts a command under the next number. `Store` if as many commands as may be were accepted
-/// already, or if the numbers of the reply are out of range: nothing is written then.
+/// The same of each reply of a change.
+fn are_in_range(change: &Change) -> bool
+    ensures { IsTrue result ↔ RepliesFit change.now }
+{
+    if !is_in_range(change.reply()) {
+        return false;
+    }
+    'looks: for f in change.further() {
+        if !is_in_range(f.reply) {
+            return false;
+        }
+    }
+    true
+}
+
+/// Whether a command may be accepted under one key and these further ones, after so many commands.
+fn has_place(count: u32, further: &[Further]) -> bool
+    ensures { IsTrue result ↔ (count + length further.now < 100000) }
+{
+    count < MAX_COMMANDS && further.len() < (MAX_COMMANDS - count) as usize
+}
+
+/// Accepts a command under the next number, and under the ones after it by its further keys.
+/// `Store` if more commands would be accepted than may be, or if the numbers of a reply are out of
+/// range: nothing is written then.
 pub(crate) fn accept_on<S: Alter>(
     conn: &mut Connection<S>,
     entry: &Entry<'_>,
@@ -147,7 +171,7 @@ pub(crate) fn accept_on<S: Alter>(
         (changed_in entry.now) entry.now.key.now entry.now.words.now (left_of pending t)) }
 {
     let count = accepted_on(conn)?;
-    if count >= MAX_COMMANDS || !is_in_range(entry.change.reply()) {
+    if !has_place(count, entry.change.further()) || !are_in_range(entry.change) {
         return Err(StoreFault::Store);
     }
     let number = count + 1;

@@ -1,12 +1,15 @@
 //! The table of accepted commands: written inside a transaction, read by the key or from the end of
 //! its numbers.
 
-ghost use Rattle.gm_registry.specs.Changes.{with_command, command_row, row_under};
+ghost use Rattle.std.specs.Prelude.{◌+◌, length};
+ghost use Rattle.gm_registry.specs.Changes.{with_command, with_further, command_row, row_under};
 ghost use Rattle.gm_registry.specs.Fitting.{TakesCommand};
+ghost use Rattle.gm_registry.specs.FittingChanges.{TakesFurther};
 ghost use Rattle.gm_registry.specs.Registry.{ChangesInside};
 
+use gm_changes::Further;
 use gm_state::Reply;
-use sqlite::{Alter, Error, Transaction, params};
+use sqlite::{Alter, Error, ErrorCode, Transaction, params};
 
 /// Adds the row of a command under its key.
 fn put_row<S: Alter>(
@@ -43,4 +46,27 @@ pub(crate) fn put_command<S: Alter>(
         Reply::Plain => put_row(tx, key, number, words, 0, 0),
         Reply::Copied { held, total } => put_row(tx, key, number, words, held, total),
     }
+}
+
+/// Adds a command under each further key, with the same words and the reply of that key, by the
+/// numbers after this one.
+pub(crate) fn put_further<S: Alter>(
+    tx: &mut Transaction<'_, S>,
+    further: &[Further],
+    number: u32,
+    words: &str,
+) -> Result<(), Error>
+    ensures { ChangesInside S.Store tx.old tx.new result
+        (with_further further.now (number + 1) words.now)
+        (TakesFurther further.now (number + 1) words.now) (length further.now) }
+{
+    let mut last = number;
+    'puts: for f in further {
+        last = match last.checked_add(1) {
+            Some(next) => next,
+            None => return Err(Error::SqliteFailure(ErrorCode::TooBig)),
+        };
+        put_command(tx, f.key.as_str(), last, words, f.reply)?;
+    }
+    Ok(())
 }

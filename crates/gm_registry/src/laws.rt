@@ -25,7 +25,7 @@ pub fn one_reading()
 }
 
 /// With a change the tables hold the rows of the records with the change, its intents and its bytes
-/// before those that were pending, and the command under its key.
+/// before those that were pending, and the command under its key and its further ones.
 pub fn change_holds()
     ensures { (ch : Changed) (key words : List ℕ) (t : Tables)
         → HoldsChange ch key words t (with_accepted ch key words t) }

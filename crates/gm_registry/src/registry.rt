@@ -81,9 +81,11 @@ impl<S: Alter> Registry<S> {
         Ok(u64::from(accepted_on(&mut self.conn)?))
     }
 
-    /// Writes a change, its intents, its bytes and its key in one transaction, and answers the
-    /// command's number. `Store` before anything is written if 100,000 commands were accepted
-    /// already, or the numbers of the reply are out of range.
+    /// Writes a change, its intents, its bytes, its key and its further ones in one transaction.
+    /// The command counts once under each key, by the next numbers in turn: answered is the one
+    /// under `key`, from 1. `Store` before anything is written if more than 100,000 commands would
+    /// be accepted, or the numbers of a reply, in sectors, are out of range: a copy holds some of
+    /// its sectors, at most all, and no more than the 1,048,576 of an image.
     pub fn accept(&mut self, change: &Change, key: &str, words: &str) -> Result<u64, StoreFault>
         ensures accepts { Accepts S.Store self.old self.new result change.now (λ t. t)
             key.now words.now }
@@ -101,7 +103,8 @@ impl<S: Alter> Registry<S> {
     }
 
     /// The same with these intents and bytes in place of the change's own and of all that are
-    /// pending: they are what is pending then, the intents numbered from 1.
+    /// pending: they are what is pending then, the intents numbered from 1. `Store` before anything
+    /// is written, as of `accept`: what was pending stays.
     pub fn accept_instead(
         &mut self,
         change: &Change,

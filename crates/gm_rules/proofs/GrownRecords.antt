@@ -176,6 +176,46 @@ module _ (s : Records) where
         subst (λ (y : Component). IsKept r.0 y) r.2 (each r.0 r.1),
       ))
 
+-- a state grows from itself
+pub grows_same : (s : Records) → IsState s → Grows s s
+grows_same s state = since_grows s s state
+    (record { mirrors = same_mirrors s; components = same_components s })
+
+-- and on and on, if what the first and the last have is in the one between too
+pub grows_on : (s t r : Records)
+    → ((a b : Mirror) → Has s.mirrors a → Has r.mirrors b → a.name ≡ b.name
+    → (m : Mirror) × Has t.mirrors m × (m.name ≡ a.name))
+    → ((j k : Component) → Has s.components j → Has r.components k → j.provider ≡ k.provider
+    → (i : Component) × Has t.components i × (i.provider ≡ j.provider))
+    → Grows s t → Grows t r → Grows s r
+grows_on s t r mirror component one two = record {
+  mirrors = λ a b h i e.
+      let m = mirror a b h i e in
+      let x = one.mirrors a m.0 h m.1 (sym m.2) in
+      let y = two.mirrors m.0 b m.1 i (m.2 ∙ e) in
+      record {
+        name = x.name ∙ y.name;
+        mid = x.mid ∙ y.mid;
+        data_sectors = x.data_sectors ∙ y.data_sectors;
+        genid = (let p : a.genid ≤ m.0.genid = x.genid in
+            let q : m.0.genid ≤ b.genid = y.genid in omega arith);
+        syncid = (let p : a.syncid ≤ m.0.syncid = x.syncid in
+            let q : m.0.syncid ≤ b.syncid = y.syncid in omega arith);
+      };
+  components = λ j k h i e.
+      let c = component j k h i e in
+      let x = one.components j c.0 h c.1 (sym c.2) in
+      let y = two.components c.0 k c.1 i (c.2 ∙ e) in
+      record {
+        provider = x.provider ∙ y.provider;
+        mirror = x.mirror ∙ y.mirror;
+        did = x.did ∙ y.did;
+        syncid = (let p : j.syncid ≤ c.0.syncid = x.syncid in
+            let q : c.0.syncid ≤ k.syncid = y.syncid in omega arith);
+        sectors = x.sectors ∙ y.sectors;
+      };
+}
+
 -- ---- the syncids that a mirror's one more brings
 
 -- a component's syncid isn't less after it is freshened, or after one is taken out of use

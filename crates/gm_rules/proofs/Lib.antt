@@ -4,8 +4,10 @@ pub mod AdvancedCopy
 pub mod Common
 pub mod EnrolledMirror
 pub mod EveryPlan
+pub mod FilledFurther
 pub mod FilteredMirror
 pub mod FoundMembers
+pub mod FurtherPlan
 pub mod GrownRecords
 pub mod LaidIntents
 pub mod LaidOver
@@ -23,7 +25,13 @@ pub mod PlanPatch
 pub mod PlansDropping
 pub mod PlansKeeping
 pub mod RuledOut
+pub mod SeriesEnds
+pub mod SeriesGoesOn
+pub mod SeriesOfOne
+pub mod SeriesTurns
 pub mod StandIn
+pub mod StayingNames
 pub mod StepOfMirror
+pub mod StretchedState
 pub mod TurnedMirror
 pub mod WrittenIntents

@@ -10,7 +10,7 @@ use Rattle.gm_rules.proofs.RuledOut.{CanTouch, Names, by_name, component_at}
 
 -- ---- what a component holds after a stretch
 
-reach_within : (m : Mirror) (k : Component) → held_of k.disk < m.data_sectors
+pub reach_within : (m : Mirror) (k : Component) → held_of k.disk < m.data_sectors
     → (held_of k.disk < reach m k) × (reach m k ≤ m.data_sectors)
 reach_within m k h =
     elim (cases_Bool (nat_lt (held_of k.disk + 256) m.data_sectors)) [
@@ -19,7 +19,7 @@ reach_within m k h =
       | inr e ↦ rw e (h, omega arith)
     ]
 
-holding_reach : (m : Mirror) (held : ℕ) (d : Disk) (forced : Bool) (was : ℕ)
+pub holding_reach : (m : Mirror) (held : ℕ) (d : Disk) (forced : Bool) (was : ℕ)
     → d ≡ Copying forced was → held_by (holding m held d) m.data_sectors ≡ held
 holding_reach m held d forced was e =
     elim (cases_Bool (held == m.data_sectors)) [
@@ -27,8 +27,9 @@ holding_reach m held d forced was e =
       | inr part ↦ rw (e, part) refl
     ]
 
-holding_part : (m : Mirror) (held : ℕ) (d : Disk) (forced : Bool) (was : ℕ) → d ≡ Copying forced was
-    → held ≤ m.data_sectors → 0 < m.data_sectors → held_of (holding m held d) < m.data_sectors
+pub holding_part : (m : Mirror) (held : ℕ) (d : Disk) (forced : Bool) (was : ℕ)
+    → d ≡ Copying forced was → held ≤ m.data_sectors → 0 < m.data_sectors
+    → held_of (holding m held d) < m.data_sectors
 holding_part m held d forced was e most some =
     elim (cases_Bool (held == m.data_sectors)) [
       | inl all ↦ rw (e, all) some

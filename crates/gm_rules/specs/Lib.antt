@@ -1,3 +1,4 @@
 pub mod AbstractCalls
+pub mod Series
 pub mod Step
 pub mod Itself

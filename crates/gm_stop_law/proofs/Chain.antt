@@ -1,5 +1,6 @@
--- A command, and losses that were accepted while its writes were pending: what they keep of it.
-use Rattle.gm_stop_law.proofs.Common.{◌≡◌, ◌≢◌, ◌∙◌, ◌⊎◌, inl, inr, ⊎_elim, ℕ, zero, suc, ◌+◌, ◌≤◌, true, false, not, refl, sym, ap, subst, arith, List, [], ◌++◌, append_assoc, append-nil, None, same_label, cases_Bool, Has, Has-append, Has-map, Has-filter, find_none, found_none, put_or, put_stays, put_there, named, one, same_from, same_tells, differ, not_both, Command, Records, World, Sound, component_of, members, name, Intent, Meta, Clear, Copy, Dirty, Patch, Component, Mirror, intents_of, metas, IsOfLoss, PendingSince, of_genid, redirected, remaining}
+-- A command, maybe of a series, and losses that were accepted while its writes were pending: what
+-- they keep of it.
+use Rattle.gm_stop_law.proofs.Common.{◌≡◌, ◌≢◌, ◌∙◌, ◌⊎◌, inl, inr, ⊎_elim, ℕ, zero, suc, ◌+◌, ◌≤◌, true, false, not, refl, sym, ap, subst, arith, List, [], ◌∷◌, ◌++◌, append_assoc, append-nil, None, same_label, cases_Bool, Has, Has-append, Has-map, Has-filter, find_none, found_none, put_or, put_stays, put_there, named, one, same_from, same_tells, differ, not_both, Command, Records, World, Sound, component_of, members, name, Intent, Meta, Clear, Copy, Dirty, Patch, Component, Mirror, copied_to, to_end, intents_of, metas, IsOfLoss, PendingSince, of_genid, redirected, remaining}
 use Rattle.gm_stop_law.proofs.OneLoss.{components_are, intents_are, lost_mirror, mirrors_are}
 use Rattle.gm_bench.proofs.LossRemaining.{has_remaining, remaining_has}
 use Rattle.gm_stop_law.proofs.Thinning.{remaining-append}
@@ -83,17 +84,18 @@ kept_or_meta n u w ts p sound t h =
 
 -- ---- where what is kept is from
 
--- the same stretch is copied to the same provider, maybe from another
+-- a stretch is copied from the same sector on to the same provider, maybe from another and further
 pub record IsOtherCopy (r t : Intent) : Type 0 where
   pub from : List ℕ
   pub to : List ℕ
   pub target : List ℕ
   pub first : ℕ
+  pub until : ℕ
   pub end : ℕ
-  pub was : r ≡ Copy from target first end
+  pub was : r ≡ Copy from target first until
   pub is : t ≡ Copy to target first end
 
--- it is the same intent, but for the source of a copy
+-- it is the same intent, but for the source and the end of a copy
 abbrev pub IsAs : Intent → Intent → Type 0
 IsAs r t = (t ≡ r) ⊎ IsOtherCopy r t
 
@@ -110,6 +112,7 @@ redirected_as p next (Copy f q a b) =
         to = next;
         target = q;
         first = a;
+        until = b;
         end = b;
         was = refl;
         is = refl;
@@ -129,34 +132,68 @@ as_further p next r s t was e =
       to = other.to;
       target = other.target;
       first = other.first;
+      until = other.until;
       end = other.end;
       was = other.was;
       is = same ∙ other.is;
     }))
     (λ (more : IsOtherCopy s t).
     let one_copy : Copy other.to other.target other.first other.end
-    ≡ Copy more.from more.target more.first more.end = sym other.is ∙ more.was in
+    ≡ Copy more.from more.target more.first more.until = sym other.is ∙ more.was in
     let target : more.target ≡ other.target = cc in
     let first : more.first ≡ other.first = cc in
-    let end : more.end ≡ other.end = cc in
     inr (record {
       from = other.from;
       to = more.to;
       target = other.target;
       first = other.first;
-      end = other.end;
+      until = other.until;
+      end = more.end;
       was = other.was;
-      is = more.is ∙ rw (target, first, end) refl;
+      is = more.is ∙ rw (target, first) refl;
     })) further)
     was
 
--- what is kept is an intent of the command, but for the source of a copy
+-- a series changes no more of it than how far it copies
+further_as : (end : ℕ) (t : Intent) → IsAs t (to_end end t)
+further_as end (Meta q) = inl refl
+further_as end (Clear q) = inl refl
+further_as end (Dirty q) = inl refl
+further_as end (Patch q a b) = inl refl
+further_as end (Copy f q a b) = inr (record {
+  from = f;
+  to = f;
+  target = q;
+  first = a;
+  until = b;
+  end = end;
+  was = refl;
+  is = refl;
+})
+
+-- each that a series has is one of its command, but for how far it copies
+copied_from : (end : ℕ) (ts : List Intent) (t : Intent) → Has (copied_to end ts) t
+    → (r : Intent) × Has ts r × IsAs r t
+copied_from end [] t h = absurd h
+copied_from end (x ∷ ts) t (inl e) =
+    (x, inl refl, subst (λ (y : Intent). IsAs x y) e (further_as end x))
+copied_from end (x ∷ ts) t (inr h) = (t, inr h, inl refl)
+
+-- and it has those that write metadata
+copied_meta : (end : ℕ) (ts : List Intent) (q : List ℕ) → Has ts (Meta q)
+    → Has (copied_to end ts) (Meta q)
+copied_meta end [] q h = absurd h
+copied_meta end (x ∷ ts) q (inl e) = inl (ap (to_end end) e)
+copied_meta end (x ∷ ts) q (inr h) = inr h
+
+-- what is kept is an intent of the command, but for the source and the end of a copy
 pub kept_from : (n : ℕ) (u w : World) (ts : List Intent) (p : PendingSince n true u w ts)
     → Sound w → (t : Intent) → Has (kept_of n u w ts p) t
     → (r : Intent)
     × Has (intents_of (first_of n u w ts p) u.state (stepped_of n u w ts p).state) r × IsAs r t
 kept_from zero u w ts p sound t h =
-    (t, subst (λ (x : List Intent). Has x t) p.intents h, inl refl)
+    copied_from p.intents.0 (intents_of p.command u.state p.stepped.state) t
+    (subst (λ (x : List Intent). Has x t) p.intents.1 h)
 kept_from (suc n) u w ts p sound t h =
     let l = p.3 in
     let was = has_remaining l.provider l.next (kept_of n u p.0 p.1 p.2) t h in
@@ -239,7 +276,8 @@ pub kept_meta : (n : ℕ) (u w : World) (ts : List Intent) (p : PendingSince n t
     → Has (intents_of (first_of n u w ts p) u.state (stepped_of n u w ts p).state) (Meta q)
     → component_of w.state q ≢ None → Has (kept_of n u w ts p) (Meta q)
 kept_meta zero u w ts p sound q h some =
-    subst (λ (x : List Intent). Has x (Meta q)) (sym p.intents) h
+    subst (λ (x : List Intent). Has x (Meta q)) (sym p.intents.1)
+    (copied_meta p.intents.0 (intents_of p.command u.state p.stepped.state) q h)
 kept_meta (suc n) u w ts p sound q h some =
     let l = p.3 in
     remaining_has l.provider l.next (kept_of n u p.0 p.1 p.2) (Meta q)

@@ -39,7 +39,9 @@ pub use Rattle.gm_refusals.specs.Applies.{IsGood, applies}
 pub use Rattle.gm_refusals.specs.Facts.{last_carries}
 pub use Rattle.gm_refusals.specs.Seen.{Seen, is_bearing}
 pub use Rattle.gm_refusals.specs.WorldFacts.{last_of, seen_of}
-pub use Rattle.gm_changes.specs.After.{activated, active_of, advanced, after, clears, clears_of, filling, intents_of, metas, patching, configured, deactivated, first_component, freshened, on_found, rebuilt, spare}
+pub use Rattle.gm_changes.specs.After.{activated, active_of, advanced, after, clears, clears_of, filling, intents_of, metas, patching, configured, deactivated, first_component, freshened, holding, on_found, reach, rebuilt, spare}
+pub use Rattle.gm_changes.specs.Stretches.{copied_to, to_end}
+pub use Rattle.gm_rules.specs.Series.{InTurn, IsSeries, Keyed}
 pub use Rattle.gm_rules.specs.Step.{Step}
 pub use Rattle.gm_stopped.specs.Leavings.{is_at_most_older, is_of_component, is_of_mirror, says, says_but_losses, says_with, may_be_before_clear, may_be_written, takes_in, is_of_none, is_numbered, was_removed}
 pub use Rattle.std.proofs.Math.Seq.{drop-append_seam, take-append_seam}
@@ -58,6 +60,7 @@ pub use Rattle.gm_metadata.specs.Images.{Image, Sizes, zeros}
 pub use Rattle.gm_state.specs.Rows.{Tables}
 pub use Rattle.gm_bench.specs.Leading.{KeepsClaims, Leads, whole}
 pub use Rattle.gm_stopped.specs.declared.stopped.Stopped.{Stopped}
+pub use Rattle.gm_state.specs.declared.records.Disk.{Disk}
 pub use Rattle.gm_state.specs.declared.records.Disk.TheVariants.{Copying}
 pub use Rattle.sqlite_trees.specs.declared.store.Store.{Ghosts}
 pub use Rattle.sqlite.specs.Held.{Held}

@@ -1,5 +1,6 @@
--- What is registered after a command and the losses that came after it, and what it was before.
-use Rattle.gm_stop_law.proofs.Common.{◌≡◌, ◌∙◌, ℕ, zero, suc, ◌+◌, ◌≤◌, true, false, sym, ap, subst, arith, List, Some, one, find_one, Has, Command, World, Sound, Step, Reply, member, members, mirror_of, name, Intent, Component, Mirror, IsOf, PendingSince, of_genid, stopped_by}
+-- What is registered after a command, maybe of a series, and the losses that came after it, and
+-- what it was before.
+use Rattle.gm_stop_law.proofs.Common.{◌≡◌, ◌∙◌, ℕ, zero, suc, ◌+◌, ◌≤◌, true, false, sym, ap, subst, arith, List, Some, one, find_one, Has, Command, World, Sound, InTurn, IsSeries, Keyed, member, members, mirror_of, name, Intent, Component, Mirror, IsOf, PendingSince, of_genid, stopped_by}
 use Rattle.gm_rules.proofs.GrownRecords.{IsGrown}
 use Rattle.gm_bench.proofs.LossReadable.{home}
 use Rattle.gm_stop_law.specs.NeverStrange.{commands_of}
@@ -17,16 +18,21 @@ settled_metas (suc n) u w ts (v, before, p, loss) =
     (more_metas loss.provider loss.next before (members w.state.components loss.name)
     (settled_metas n u v before p))
 
--- the step of the first command
+-- the steps of the first command
 pub record HasStepped (u s : World) (c : Command) : Type 0 where
-  pub key : List ℕ
-  pub reply : Reply
-  pub step : Step u key c s reply
+  pub keys : List Keyed
+  pub series : IsSeries c keys
+  pub turns : InTurn u c keys s
   pub sound : Sound s
 
 pub stepped : (n : ℕ) (u w : World) (ts : List Intent) (p : PendingSince n true u w ts)
     → HasStepped u (stepped_of n u w ts p) (first_of n u w ts p)
-stepped zero u w ts p = record { key = p.key; reply = p.reply; step = p.step; sound = p.sound }
+stepped zero u w ts p = record {
+  keys = p.keys;
+  series = p.series;
+  turns = p.turns;
+  sound = p.sound;
+}
 stepped (suc n) u w ts p = stepped n u p.0 p.1 p.2
 
 -- the mirror is one that was registered after the command, with a genid that rose n times at most

@@ -1,14 +1,17 @@
 -- What a stop left of an image that a pending intent needs, by how it needs it.
-use Rattle.gm_stop_law.proofs.Common.{◌≡◌, ◌≢◌, ◌∙◌, ⊎_elim, inl, inr, ℕ, ◌<◌, ◌+◌, ◌≤◌, ◌-◌, true, refl, sym, ap, subst, arith, List, Option, Some, None, list_any, some_any, or_left, eq-eqb, same_label, same_from, same_is, not_both, filter-Has, found, found_none, option_cases, one, Has, Image, encoded, metadata, IsMetadata, Copying, Command, Records, World, Sound, member, component_of, name, provider, Intent, Meta, Clear, Copy, Dirty, Patch, Mirror, Component, IsOf, is_last, is_dirty_of, Tables, PendingSince, of_genid, SaysSince, KeepsClaims, Leads, stopped_by, Stopped, Provider, intents_of}
-use Rattle.gm_rules.proofs.GrownRecords.{Grows, IsGrown, IsKept, grows}
-use Rattle.gm_rules.proofs.AdvancedCopy.{IsAdvance, advanced_copy, only_of_advance}
+use Rattle.gm_stop_law.proofs.Common.{◌≡◌, ◌≢◌, ◌∙◌, ◌⊎◌, ⊎_elim, inl, inr, ℕ, ◌<◌, ◌+◌, ◌≤◌, ◌-◌, true, refl, sym, ap, subst, arith, List, Option, Some, None, list_any, some_any, or_left, eq-eqb, same_label, same_from, same_is, not_both, filter-Has, found, found_none, option_cases, one, Has, Image, encoded, metadata, IsMetadata, Copying, Command, Records, World, Sound, member, component_of, name, provider, Intent, Meta, Clear, Copy, Dirty, Patch, Mirror, Component, IsOf, is_last, is_dirty_of, Tables, PendingSince, of_genid, SaysSince, KeepsClaims, Leads, stopped_by, Stopped, Provider, intents_of}
+use Rattle.gm_commands.specs.declared.command.Command.TheVariants.{Advance}
+use Rattle.gm_rules.proofs.GrownRecords.{Grows, IsGrown, IsKept}
+use Rattle.gm_rules.proofs.AdvancedCopy.{IsAdvance, only_of_advance}
+use Rattle.gm_rules.proofs.SeriesTurns.{grown_in_turn}
 use Rattle.gm_stopped.specs.Leavings.{filled_to, is_of_component, may_be_before_clear, may_be_written, says, says_but_losses}
 use Rattle.gm_bench.proofs.LossReadable.{home}
 use Rattle.gm_stop_law.specs.NeverStrange.{commands_of}
+use Rattle.gm_stop_law.proofs.Advances.{IsStep, copied_in_turn, none_is_new, one_or_advance}
 use Rattle.gm_stop_law.proofs.Chain.{IsOtherCopy, components_stay, first_of, kept_from, kept_meta, kept_of, kept_or_meta, stepped_of}
 use Rattle.gm_stop_law.proofs.ClearedImage.{cleared_before}
 use Rattle.gm_stop_law.proofs.Later.{HasStepped, risen, stepped, stopped_is, was_then}
-use Rattle.gm_stop_law.proofs.NamedIntents.{cleared_by, never_marks, new_is_named}
+use Rattle.gm_stop_law.proofs.NamedIntents.{cleared_by, never_clears, never_marks, new_is_named}
 use Rattle.gm_stop_law.proofs.NewImage.{new_may_be_written}
 use Rattle.gm_stop_law.proofs.SaidMetadata.{grown_says, metadata_fits, says_but}
 
@@ -86,7 +89,11 @@ module _ (t : Tables) (ts : List Intent) (bytes : List (List ℕ)) (u w : World)
     losses_are i h = ap (λ (x : Stopped). x.losses) (stopped_is n u w ts p l.sound i h)
 
     grown_records : Grows u.state s.state
-    grown_records = grows u s did.key c did.reply k.sound did.sound did.step
+    grown_records = grown_in_turn u s c did.keys k.sound did.turns
+
+    -- one step took u on, or the command is an advance
+    did_once : IsStep u s c ⊎ ((name : List ℕ) × (target : List ℕ) × (c ≡ Advance name target))
+    did_once = one_or_advance u s c did.keys did.series did.turns
 
     -- ---- an image that is written to, as it was before the command
 
@@ -120,16 +127,21 @@ module _ (t : Tables) (ts : List Intent) (bytes : List (List ℕ)) (u w : World)
     new_written m x of fresh i seen many old =
         let then = was_then n u w ts p l.sound m x of in
         let there = (member s.state then.0.name x then.1.component).0 in
-        let named : Has (intents_of c u.state s.state) (Meta x.provider) =
-        new_is_named u s did.key c did.reply did.step x there fresh in
-        let left : Has kept (Meta x.provider) = kept_meta n u w ts p l.sound x.provider named
-        (is_there w.state x (member w.state m.name x of.component).0) in
-        let written : may_be_written (Some c) m x i ≡ true =
-        new_may_be_written u s did.key c did.reply k.sound did.sound did.step then.0 x then.1 fresh
-        m then.2.grown i seen.named many
-        (old ∙ ap (λ (b : ℕ). u.shelf x.provider (b - 1)) many) in
-        subst (λ (o : Option Command). may_be_written o m x i ≡ true)
-        (sym (command_is (Meta x.provider) left)) written
+        elim did_once [
+          | inr (name, target, is) ↦
+              absurd (none_is_new u s c name target did.keys is did.turns x there fresh)
+          | inl once ↦
+              let named : Has (intents_of c u.state s.state) (Meta x.provider) =
+              new_is_named u s once.key c once.reply once.step x there fresh in
+              let left : Has kept (Meta x.provider) = kept_meta n u w ts p l.sound x.provider named
+              (is_there w.state x (member w.state m.name x of.component).0) in
+              let written : may_be_written (Some c) m x i ≡ true =
+              new_may_be_written u s once.key c once.reply k.sound did.sound once.step then.0 x
+              then.1 fresh m then.2.grown i seen.named many
+              (old ∙ ap (λ (b : ℕ). u.shelf x.provider (b - 1)) many) in
+              subst (λ (o : Option Command). may_be_written o m x i ≡ true)
+              (sym (command_is (Meta x.provider) left)) written
+        ]
 
     pub old_written : (m : Mirror) (x : Component) → IsOf w.state m x → (i : Provider)
         → IsSeen x.provider i → i.sectors ≡ x.sectors
@@ -164,10 +176,15 @@ module _ (t : Tables) (ts : List Intent) (bytes : List (List ℕ)) (u w : World)
               ap (λ (z : List ℕ → Option ℕ). z q) k.sizes ∙ seen.sectors in
               subst (λ (o : Option Command). may_be_before_clear w.state o i ≡ true)
               (sym (command_is (Clear q) left))
-              (cleared_before u s did.key c did.reply k.sound did.sound did.step q
-              (cleared_by c u.state s.state q named) w.state
-              (λ m g. let rose = risen n u w ts p l.sound m g in (rose.0, rose.2, rose.3.grown))
-              (components_stay n u w ts p l.sound) i seen.named size old)
+              (elim did_once [
+                | inr (name, target, is) ↦ absurd (never_clears name target u.state s.state q
+                    (subst (λ (d : Command). Has (intents_of d u.state s.state) (Clear q)) is
+                    named))
+                | inl once ↦ cleared_before u s once.key c once.reply k.sound did.sound once.step q
+                    (cleared_by c u.state s.state q named) w.state (λ m g.
+                    let rose = risen n u w ts p l.sound m g in (rose.0, rose.2, rose.3.grown))
+                    (components_stay n u w ts p l.sound) i seen.named size old
+              ])
         ]
 
     -- ---- those of a copy
@@ -179,24 +196,27 @@ module _ (t : Tables) (ts : List Intent) (bytes : List (List ℕ)) (u w : World)
         | inr (q, e) ↦ absurd (let no : ⊥ = cc in no)
       ]
 
-      pub copied : (from : List ℕ) × Has (intents_of c u.state s.state) (Copy from to a b)
+      pub copied : (from : List ℕ) × (until : ℕ)
+          × Has (intents_of c u.state s.state) (Copy from to a until)
       copied =
           let from = kept_from n u w ts p l.sound (Copy f to a b) left_copy in
           ⊎_elim
           (λ (e : Copy f to a b ≡ from.0).
-          (f, subst (λ (x : Intent). Has (intents_of c u.state s.state) x) (sym e) from.1))
+          (f, b, subst (λ (x : Intent). Has (intents_of c u.state s.state) x) (sym e) from.1))
           (λ (e : IsOtherCopy from.0 (Copy f to a b)).
           let is = e.is in
           let target : e.target ≡ to = cc in
           let first : e.first ≡ a = cc in
-          let end : e.end ≡ b = cc in
-          let was : from.0 ≡ Copy e.from to a b = e.was ∙ rw (target, first, end) refl in
-          (e.from, subst (λ (x : Intent). Has (intents_of c u.state s.state) x) was from.1))
+          let was : from.0 ≡ Copy e.from to a e.until = e.was ∙ rw (target, first) refl in (
+            e.from,
+            e.until,
+            subst (λ (x : Intent). Has (intents_of c u.state s.state) x) was from.1,
+          ))
           from.2
 
       abbrev pub advance : IsAdvance u s to a
-      advance = advanced_copy u s did.key c did.reply k.sound did.sound did.step copied.0 to a b
-          copied.1
+      advance = copied_in_turn u s c did.keys k.sound did.series did.turns copied.0 to a copied.1
+          copied.2
 
       -- a mirror of then was there before, with the same genid
       mirror_before : (m : Mirror) → Has s.state.mirrors m → Has u.state.mirrors m
@@ -217,7 +237,7 @@ module _ (t : Tables) (ts : List Intent) (bytes : List (List ℕ)) (u w : World)
             | inr (z, is) ↦ (let no : ⊥ = cc in no)
             | inl left ↦
                 let from = kept_from n u w ts p l.sound (Dirty x) left in
-                let of = only_of_advance u s c (Copy copied.0 to a b) copied.1 refl in
+                let of = only_of_advance u s c (Copy copied.0 to a copied.1) copied.2 refl in
                 ⊎_elim
                 (λ (same : Dirty x ≡ from.0).
                 never_marks of.0 of.1 u.state s.state x

@@ -1,3 +1,4 @@
+pub mod Advances
 pub mod Chain
 pub mod ClearedImage
 pub mod Common

@@ -1,6 +1,6 @@
 -- What the intents of a command name: the components that it takes in, and the images that it
 -- clears.
-use Rattle.gm_stop_law.proofs.Common.{◌≡◌, ◌⊎◌, inl, inr, ⊎_elim, ℕ, ◌+◌, true, refl, sym, ap, subst, List, [], ◌∷◌, length, map, flat_map, Option, Some, None, same_label, not_both, any_from, same_from, Has, Has-map, map-Has, filter-Has, put_there, put_all_or, Command, Records, World, Step, Reply, Intent, Meta, Clear, Dirty, Mirror, Component, component_of, mirror_of, members, named, new_name, provider, adopted, after, spare, filling, is_copy, active_of, clears, intents_of, metas, patching, on_found, seen_of, source_of, unwrap_or, Seen}
+use Rattle.gm_stop_law.proofs.Common.{◌≡◌, ◌⊎◌, inl, inr, ⊎_elim, ℕ, ◌+◌, true, refl, sym, ap, subst, List, [], ◌∷◌, length, map, flat_map, Option, Some, None, same_label, not_both, any_from, found as found_in, same_from, same_is, Has, Has-map, map-Has, filter-Has, put_there, put_all_or, Command, Records, World, Step, Reply, Intent, Meta, Clear, Copy, Dirty, Mirror, Component, component_of, mirror_of, members, named, new_name, provider, adopted, after, spare, filling, is_copy, active_of, clears, intents_of, metas, patching, on_found, seen_of, source_of, unwrap_or, Seen}
 use Rattle.gm_commands.specs.declared.command.Command.TheVariants as commands
 use Rattle.gm_commands.specs.declared.command.NewComponent.{NewComponent}
 use Rattle.gm_taste.specs.declared.tasted.Member.{Member}
@@ -73,9 +73,10 @@ new_is_named u w key c r step k h fresh =
 
 -- what holds of each that is made by way of what is found holds of all
 each_found : {X Y : Type 0} (o : Option X) (f : X → List Y) (P : Y → Type 0)
-    → ((x : X) (y : Y) → Has (f x) y → P y) → (y : Y) → Has (on_found o [] f) y → P y
+    → ((x : X) → o ≡ Some x → (y : Y) → Has (f x) y → P y) → (y : Y) → Has (on_found o [] f) y
+    → P y
 each_found None f P each y h = absurd h
-each_found (Some x) f P each y h = each x y h
+each_found (Some x) f P each y h = each x refl y h
 
 -- an intent that copies, or writes metadata
 abbrev CopiesOrSays : Intent → Type 0
@@ -91,8 +92,30 @@ filling_is m k source t (inr (inr h)) = absurd h
 pub advance_is : (n p : List ℕ) (s t : Records) (i : Intent)
     → Has (intents_of (commands.Advance n p) s t) i → CopiesOrSays i
 advance_is n p s t =
-    each_found (mirror_of s n) _ CopiesOrSays (λ m. each_found (component_of s p) _ CopiesOrSays
-    (λ k. each_found (source_of s p) _ CopiesOrSays (λ source. filling_is m k source)))
+    each_found (mirror_of s n) _ CopiesOrSays (λ m e. each_found (component_of s p) _ CopiesOrSays
+    (λ k at. each_found (source_of s p) _ CopiesOrSays (λ source is. filling_is m k source)))
+
+-- an intent that copies to p, if it copies
+abbrev CopiesTo : List ℕ → Intent → Type 0
+CopiesTo p i = (f t : List ℕ) (a b : ℕ) → i ≡ Copy f t a b → t ≡ p
+
+filling_to : (m : Mirror) (k : Component) (source : List ℕ) (i : Intent)
+    → Has (filling m k source) i → CopiesTo k.provider i
+filling_to m k source i (inl e) f t a b is = cc
+filling_to m k source i (inr (inl e)) f t a b is = absurd (let no : ⊥ = cc in no)
+filling_to m k source i (inr (inr h)) f t a b is = absurd h
+
+-- what advance copies goes to the component that it names
+pub copies_to : (n p : List ℕ) (s s' : Records) (f t : List ℕ) (a b : ℕ)
+    → Has (intents_of (commands.Advance n p) s s') (Copy f t a b) → t ≡ p
+copies_to n p s s' f t a b h =
+    each_found (mirror_of s n) _ (CopiesTo p) (λ m e.
+    each_found (component_of s p) _ (CopiesTo p) (λ k at.
+    each_found (source_of s p) _ (CopiesTo p) (λ source is.
+    subst (λ (q : List ℕ). (i : Intent) → Has (filling m k source) i → CopiesTo q i)
+    (same_is k.provider p (found_in (λ (c : Component). same_label c.provider p) s.components k
+    at).1)
+    (filling_to m k source)))) (Copy f t a b) h f t a b refl
 
 -- it marks nothing, and clears nothing
 pub never_marks : (n p : List ℕ) (s t : Records) (q : List ℕ)
@@ -102,7 +125,7 @@ never_marks n p s t q h = elim (advance_is n p s t (Dirty q) h) [
   | inr (a, e) ↦ (let f : ⊥ = cc in f)
 ]
 
-never_clears : (n p : List ℕ) (s t : Records) (q : List ℕ)
+pub never_clears : (n p : List ℕ) (s t : Records) (q : List ℕ)
     → Has (intents_of (commands.Advance n p) s t) (Clear q) → ⊥
 never_clears n p s t q h = elim (advance_is n p s t (Clear q) h) [
   | inl e ↦ (let f : ⊥ = cc in f)

@@ -1,5 +1,5 @@
 -- The walk back over the last commands finds the one that the chain begins with.
-use Rattle.gm_stop_law.proofs.Common.{◌≡◌, ◌∙◌, inl, inr, ℕ, zero, suc, ◌<◌, ◌+◌, ◌-◌, nat_lt, true, false, refl, sym, ap, subst, arith, List, [], ◌∷◌, ◌++◌, length, map, take, length-append, drop-append_seam, take-append_seam, drop, cases_Bool, le-ltb, length-map, list_all, Some, same_label, Has, Ascends, Has-append_left, find_one, Has-filter, Has-map, has_all, Command, Lost, Answered, Records, World, Sound, component_of, members, provider, Intent, Meta, Component, intents_of, metas, remaining, PendingSince, before_loss, before_own, is_member, is_own, passes, stopped_after, stopped_by, ends_on, passes_on}
+use Rattle.gm_stop_law.proofs.Common.{◌≡◌, ◌∙◌, inl, inr, ℕ, zero, suc, ◌<◌, ◌+◌, ◌-◌, nat_lt, true, false, refl, sym, ap, subst, arith, List, [], ◌∷◌, ◌++◌, length, map, take, length-append, drop-append_seam, take-append_seam, drop, cases_Bool, le-ltb, length-map, list_all, Some, same_label, Has, Ascends, Has-append_left, find_one, Has-filter, Has-map, has_all, Command, Lost, Answered, Records, World, Sound, component_of, members, provider, Intent, Meta, Component, copied_to, intents_of, metas, remaining, InTurn, IsSeries, Keyed, PendingSince, before_loss, before_own, is_member, is_own, passes, stopped_after, stopped_by, ends_on, passes_on}
 use Rattle.gm_stop_law.proofs.Chain.{first_of, kept_first, kept_of}
 use Rattle.gm_stop_law.proofs.OneLoss.{commands_are, components_are, intents_are}
 use Rattle.gm_stop_law.proofs.Thinning.{left_of, thin, thin-append, thin-metas}
@@ -35,20 +35,43 @@ none_before s n ts count e =
 count_metas : (ks : List Component) → length (metas ks) ≡ length ks
 count_metas ks = length-map ks (λ (k : Component). Meta k.provider)
 
+-- metadata copy nothing further
+copied_metas : (end : ℕ) (ks : List Component) → copied_to end (metas ks) ≡ metas ks
+copied_metas end [] = refl
+copied_metas end (k ∷ ks) = refl
+
 -- the command that the chain begins with isn't passed: a loss has no intents before its own
 first_ends : (s now : Records) (ls : List (List ℕ × List ℕ))
-    → s.components ≡ left_of ls now.components → (c : Command) (was : Records)
-    → passes (before_loss s (thin ls (intents_of c was now)) c) ≡ false
-first_ends s now ls are (Lost n ps) was =
+    → s.components ≡ left_of ls now.components → (c : Command) (was : Records) (end : ℕ)
+    → passes (before_loss s (thin ls (copied_to end (intents_of c was now))) c) ≡ false
+first_ends s now ls are (Lost n ps) was end =
     let all : thin ls (metas (members now.components n)) ≡ metas (members s.components n) =
     thin-metas ls now.components n
     ∙ ap (λ (ks : List Component). metas (members ks n)) (sym are) in
     let count : length (thin ls (metas (members now.components n)))
     ≡ length (members s.components n) =
     ap length all ∙ count_metas (members s.components n) in
-    none_before s n (thin ls (metas (members now.components n))) (length (members s.components n))
-    count
-first_ends s now ls are c was = refl
+    ap (λ (ts : List Intent).
+    passes (before_own s n (thin ls ts) (length (members s.components n))))
+    (copied_metas end (members now.components n))
+    ∙ none_before s n (thin ls (metas (members now.components n)))
+    (length (members s.components n)) count
+first_ends s now ls are c was end = refl
+
+-- a command that was answered under one key after another is the last one that was accepted
+last_in_turn : (u w : World) (c : Command) (k : Keyed) (ks : List Keyed) → InTurn u c (k ∷ ks) w
+    → (older : List Command) × (commands_of w.answered ≡ c ∷ older)
+last_in_turn u w c k [] t = (
+  commands_of u.answered,
+  ap (λ (x : World). commands_of x.answered) t.4 ∙ ap commands_of t.3.answered,
+)
+last_in_turn u w c k (l ∷ ks) t = last_in_turn t.1 w c l ks t.4
+
+-- so is that of a series
+newest : (u w : World) (c : Command) (ks : List Keyed) → IsSeries c ks → InTurn u c ks w
+    → (older : List Command) × (commands_of w.answered ≡ c ∷ older)
+newest u w c [] series t = absurd series
+newest u w c (k ∷ ks) series t = last_in_turn u w c k ks t
 
 -- a list that has one isn't empty
 some_there : (ts : List Intent) (t : Intent) → Has ts t → 0 < length ts
@@ -83,12 +106,12 @@ module _ (s : Records) (in_order : Ascends provider s.components) where
       let now : s.components ≡ left_of ls p.stepped.state.components =
       are ∙ ap (λ (r : Records). left_of ls r.components) p.state in
       let ends : passes (before_loss s (thin ls ts) c) ≡ false =
-      ap (λ (x : List Intent). passes (before_loss s (thin ls x) c)) p.intents
-      ∙ first_ends s p.stepped.state ls now c u.state in
+      ap (λ (x : List Intent). passes (before_loss s (thin ls x) c)) p.intents.1
+      ∙ first_ends s p.stepped.state ls now c u.state p.intents.0 in
+      let last = newest u p.stepped c p.keys p.series p.turns in
       let same : passed ≡ passed + 0 = omega arith in
-      ap (λ (x : List Answered). stopped_after s (thin ls ts) passed (commands_of x))
-      (p.answered ∙ p.step.answered)
-      ∙ (ends_on s (thin ls ts) passed c (commands_of u.answered) ends
+      ap (stopped_after s (thin ls ts) passed) (ap commands_of p.answered ∙ last.1)
+      ∙ (ends_on s (thin ls ts) passed c last.0 ends
       ∙ ap (λ (i : ℕ). record { command = Some c; losses = i }) same)
   walk (suc n) u w ts p ls t passed are h =
       let v = p.0 in

@@ -4,8 +4,8 @@
 //! runs of `gm_bench`, which says how pending intents and last sectors came about (`ComesOf`), and
 //! from the rule of `gm_stopped`. Read `proofs/NoneStrange.antt` first: an image by an image, by
 //! how a pending intent needs it. `LeftImage.antt` goes through what it was before the command,
-//! `Later.antt` and `Chain.antt` say what the losses after that kept, and `WalkBack.antt` that the
-//! look finds the command.
+//! `Advances.antt` says what several advances in turn come to, `Later.antt` and `Chain.antt` what
+//! the losses after that kept, and `WalkBack.antt` that the look finds the command.
 #![tactic(auto)]
 
 mod laws;

@@ -1,6 +1,7 @@
 -- How a sync ended, and the filling of one component.
-use Rattle.gm_sync.proofs.Common.{◌≡◌, refl, subst, ℕ, List, Option, Some, None, Records, CallRefusal, ComponentEnd, ComponentEnds, Due, Ending, EndsAs, FillsEach, RefusesAs, Unfilled, Whole, Refused, NoRoom, most_turns, next_of, unfilled_at}
+use Rattle.gm_sync.proofs.Common.{◌≡◌, refl, subst, ℕ, List, Option, Some, None, Records, CallRefusal, ComponentEnd, ComponentEnds, Due, Ending, EndsAs, FillsEach, RefusesAs, Unfilled, Whole, NoRoom, most_turns, next_of, unfilled_at}
 use Rattle.gm_sync.specs.declared.fill.ComponentEnd.TheVariants as component
+use Rattle.gm_sync.specs.declared.synced.Ending.TheVariants.{Refused}
 
 -- what follows of a refusal
 pub refuses_as_too : (Q R : List ℕ → CallRefusal → Type 0) (N M : ℕ → Type 0)

@@ -1,86 +1,11 @@
 -- Calls that fill, one after the other.
-use Rattle.gm_sync.proofs.Common.{◌≡◌, ◌∙◌, ◌⊎◌, inl, inr, refl, sym, ap, subst, subst₂, append_assoc, arith, List, [], ◌∷◌, ◌++◌, Result, Ok, Image, Has, IsLawful, Command, Records, World, Call, Run, AreRecordsOf, DiskKept, progress_of, registry_of, shelf_of, Keep, LooksOn, LookDoes, IsAt, BenchFault, Bench, done_at_rest, CallRefusal, ℕ, ◌+◌, ◌≤◌, length, length-append, Due, Fills, FillsBy, FillsSo, IsRefusedIn, IsFilledFrom, IsLast, IsWhole, Refuses}
+use Rattle.gm_sync.proofs.Common.{◌≡◌, ◌∙◌, refl, arith, List, [], ◌++◌, Result, Ok, Image, IsLawful, Command, Records, World, Call, AreRecordsOf, DiskKept, progress_of, registry_of, shelf_of, Keep, LooksOn, LookDoes, IsAt, BenchFault, Bench, done_at_rest, CallRefusal, ℕ, ◌+◌, ◌≤◌, length, Due, Fills, FillsBy, FillsSo, IsRefusedIn, IsFilledFrom, IsWhole, Refuses, calls_in}
 use Rattle.sqlite_trees.specs.declared.store.Store.{Ghosts as StoreGhosts}
 use Rattle.gm_shelf.specs.declared.shelf.Shelf.{Ghosts as ShelfGhosts}
 use Rattle.gm_shelf.proofs.Keeping.{keeps_then}
-use Rattle.gm_rules.specs.AbstractCalls as run
 use Rattle.gm_bench.proofs.Looks.{looked_at}
 use Rattle.gm_bench.proofs.GatheredFacts.{are_records}
-
--- runs in turn
-pub run_then : (u : World) (calls : List Call) (v : World) (answers : List run.Answer)
-    (more : List Call) (w : World) (others : List run.Answer) → Run u calls v answers
-    → Run v more w others → Run u (calls ++ more) w (answers ++ others)
-run_then u [] v [] more w others first then =
-    subst (λ (x : World). Run x more w others) first then
-run_then u (call ∷ calls) v (answer ∷ answers) more w others first then = (
-  first.0,
-  first.1,
-  run_then first.0 calls v answers more w others first.2 then,
-)
-run_then u [] v (answer ∷ answers) more w others first then = absurd first
-run_then u (call ∷ calls) v [] more w others first then = absurd first
-
-pub has_either : {X : Type 0} (xs ys : List X) (x : X) → Has (xs ++ ys) x → Has xs x ⊎ Has ys x
-has_either [] ys x h = inr h
-has_either (y ∷ xs) ys x (inl is) = inl (inl is)
-has_either {X} (y ∷ xs) ys x (inr h) = placed (has_either xs ys x h) where
-  placed : Has xs x ⊎ Has ys x → Has (y ∷ xs) x ⊎ Has ys x
-  placed (inl a) = inl (inr a)
-  placed (inr b) = inr b
-
--- the last call that was done, if others follow
-last_more : (v u : World) (calls more : List Call) (before world : World)
-    → IsLast v u calls before world → IsLast v u (calls ++ more) before world
-last_more v u calls more before world (inl same) = inl same
-last_more v u calls more before world (inr (inl waits)) = inr (inl waits)
-last_more v u calls more before world (inr (inr done)) = inr (inr (record {
-  older = done.older;
-  call = done.call;
-  newer = done.newer ++ more;
-  answers = done.answers;
-  reply = done.reply;
-  all = ap (λ (cs : List Call). cs ++ more) done.all
-      ∙ append_assoc done.older (done.call ∷ done.newer) more;
-  run = done.run;
-  step = done.step;
-}))
-
--- the last of calls in turn
-pub last_then : (v u : World) (calls : List Call) (answers : List run.Answer) (before world : World)
-    (more : List Call) (then end : World) → Run u calls world answers
-    → IsLast v u calls before world → IsLast before world more then end
-    → IsLast v u (calls ++ more) then end
-last_then v u calls answers before world more then end run first (inl same) = inl same
-last_then v u calls answers before world more then end run first (inr (inl waits)) =
-    subst₂ (IsLast v u (calls ++ more)) (sym waits.0) (sym waits.1)
-    (last_more v u calls more before world first)
-last_then v u calls answers before world more then end run first (inr (inr done)) =
-    inr (inr (record {
-      older = calls ++ done.older;
-      call = done.call;
-      newer = done.newer;
-      answers = answers ++ done.answers;
-      reply = done.reply;
-      all = ap (λ (cs : List Call). calls ++ cs) done.all
-          ∙ sym (append_assoc calls done.older (done.call ∷ done.newer));
-      run = run_then u calls world answers done.older then done.answers run done.run;
-      step = done.step;
-    }))
-
--- what fits of all calls of two lists, or of one
-module _ (Fit : Command → Type 0) where
-  pub either_fills : (calls more : List Call)
-      → ((call : Call) → Has calls call → Fit call.command)
-      → ((call : Call) → Has more call → Fit call.command)
-      → (call : Call) → Has calls call ⊎ Has more call → Fit call.command
-  either_fills calls more first then call (inl has) = first call has
-  either_fills calls more first then call (inr has) = then call has
-
-  pub one_fills : (c : Call) → Fit c.command → (call : Call) → Has (c ∷ []) call
-      → Fit call.command
-  one_fills c is call (inl same) = subst (λ (x : Call). Fit x.command) same is
-  one_fills c is call (inr has) = absurd has
+use Rattle.gm_sync.proofs.Series.{both_fill, count_append, each_too, none_fills, run_then}
 
 module _ {S H : Type 0} (g : StoreGhosts S) (h : ShelfGhosts H) where
   pub keep_then : (a b c : Bench S H)
@@ -136,11 +61,10 @@ module _ {S H : Type 0} (g : StoreGhosts S) (h : ShelfGhosts H) (Fit : Command �
     stays = refl;
     keep = keep_none g h a;
     does = λ honest kept away u at. record {
-      calls = [];
-      answers = [];
+      handed = [];
       world = u;
       run = refl;
-      fill = λ call has. absurd has;
+      fill = none_fills Fit;
       at = at;
     };
   }
@@ -149,13 +73,10 @@ module _ {S H : Type 0} (g : StoreGhosts S) (h : ShelfGhosts H) (Fit : Command �
       (one : IsFilledFrom g h Fit b away u) → IsFilledFrom g h Fit c away one.world
       → IsFilledFrom g h Fit c away u
   filled_then b c away u one two = record {
-    calls = one.calls ++ two.calls;
-    answers = one.answers ++ two.answers;
+    handed = one.handed ++ two.handed;
     world = two.world;
-    run = run_then u one.calls one.world one.answers two.calls two.world two.answers one.run
-        two.run;
-    fill = λ call has. either_fills Fit one.calls two.calls one.fill two.fill call
-        (has_either one.calls two.calls call has);
+    run = run_then u one.handed one.world two.handed two.world one.run two.run;
+    fill = both_fill Fit one.handed two.handed one.fill two.fill;
     at = two.at;
   }
 
@@ -170,9 +91,10 @@ module _ {S H : Type 0} (g : StoreGhosts S) (h : ShelfGhosts H) (Fit : Command �
         (then.does (first.keep.shelf.honest honest) kept away one.world one.at);
   }
 
-  -- what holds of the calls of two in turn, and of the world that they reach
-  pub so_then : (P Q R : List Call → World → Type 0)
-      → ((xs ys : List Call) (v w : World) → P xs v → Q ys w → R (xs ++ ys) w) → (a b c : Bench S H)
+  -- what holds of the series of two in turn, and of the world that they reach
+  pub so_then : (P Q R : List (List Call) → World → Type 0)
+      → ((xs ys : List (List Call)) (v w : World) → P xs v → Q ys w → R (xs ++ ys) w)
+      → (a b c : Bench S H)
       → Keep g h (registry_of a) (registry_of b) (shelf_of a) (shelf_of b)
       → Keep g h (registry_of b) (registry_of c) (shelf_of b) (shelf_of c)
       → FillsSo g h Fit P a b → FillsSo g h Fit Q b c → FillsSo g h Fit R a c
@@ -181,7 +103,7 @@ module _ {S H : Type 0} (g : StoreGhosts S) (h : ShelfGhosts H) (Fit : Command �
       let one = first honest clean away u at in
       let two = then (keep.shelf.honest honest) kept away one.0.world one.0.at in (
         filled_then b c away u one.0 two.0,
-        both one.0.calls two.0.calls one.0.world two.0.world one.1 two.1,
+        both one.0.handed two.0.handed one.0.world two.0.world one.1 two.1,
       )
 
   -- a call that was refused after others that filled
@@ -189,8 +111,8 @@ module _ {S H : Type 0} (g : StoreGhosts S) (h : ShelfGhosts H) (Fit : Command �
       → Fills g h Fit a b → Keep g h (registry_of b) (registry_of c) (shelf_of b) (shelf_of c)
       → Refuses g h Fit Next b c why → Refuses g h Fit Next a c why
   refuses_then Next a b c why first keep refuses =
-      so_then (λ calls w. Unit {0}) (λ calls w. IsRefusedIn Next w why)
-      (λ calls w. IsRefusedIn Next w why) (λ xs ys v w some is. is) a b c first.keep keep
+      so_then (λ handed w. Unit {0}) (λ handed w. IsRefusedIn Next w why)
+      (λ handed w. IsRefusedIn Next w why) (λ xs ys v w some is. is) a b c first.keep keep
       (λ honest kept away u at. (first.does honest kept away u at, tt)) refuses
 
   -- so many calls, and then so many more
@@ -199,9 +121,9 @@ module _ {S H : Type 0} (g : StoreGhosts S) (h : ShelfGhosts H) (Fit : Command �
       → Keep g h (registry_of b) (registry_of c) (shelf_of b) (shelf_of c)
       → FillsBy g h Fit a b n → FillsBy g h Fit b c m → FillsBy g h Fit a c (n + m)
   by_then a b c n m keep then_keep first then =
-      so_then (λ calls w. n ≤ length calls) (λ calls w. m ≤ length calls)
-      (λ calls w. n + m ≤ length calls)
-      (λ xs ys v w some more. omega (arith, length-append xs ys, some, more)) a b c keep then_keep
+      so_then (λ handed w. n ≤ length (calls_in handed)) (λ handed w. m ≤ length (calls_in handed))
+      (λ handed w. n + m ≤ length (calls_in handed))
+      (λ xs ys v w some more. omega (arith, count_append xs ys, some, more)) a b c keep then_keep
       first then
 
   -- at least none
@@ -213,8 +135,9 @@ module _ {S H : Type 0} (g : StoreGhosts S) (h : ShelfGhosts H) (Fit : Command �
       → Keep g h (registry_of b) (registry_of c) (shelf_of b) (shelf_of c)
       → FillsBy g h Fit b c n → FillsBy g h Fit a c n
   by_behind a b c n first keep then =
-      so_then (λ calls w. Unit {0}) (λ calls w. n ≤ length calls) (λ calls w. n ≤ length calls)
-      (λ xs ys v w some many. omega (arith, length-append xs ys, many)) a b c first.keep keep
+      so_then (λ handed w. Unit {0}) (λ handed w. n ≤ length (calls_in handed))
+      (λ handed w. n ≤ length (calls_in handed))
+      (λ xs ys v w some many. omega (arith, count_append xs ys, many)) a b c first.keep keep
       (λ honest kept away u at. (first.does honest kept away u at, tt)) then
 
   -- fewer
@@ -233,11 +156,10 @@ module _ {S H : Type 0} (g : StoreGhosts S) (h : ShelfGhosts H) (Fit : Command �
     stays = stays;
     keep = keep;
     does = λ honest kept away u at. record {
-      calls = [];
-      answers = [];
+      handed = [];
       world = u;
       run = refl;
-      fill = λ call has. absurd has;
+      fill = none_fills Fit;
       at = looked_at g h (registry_of a) (registry_of b) (shelf_of a) (shelf_of b)
           away [] [] u u (does honest kept) at;
     };
@@ -254,8 +176,7 @@ module _ {S H : Type 0} (g : StoreGhosts S) (h : ShelfGhosts H) (Fit : Command �
       → LookDoes g h (registry_of b) (registry_of c) (shelf_of b) (shelf_of c)
       → IsFilledFrom g h Fit b away u → IsFilledFrom g h Fit c away u
   filled_look b c away u does filled = record {
-    calls = filled.calls;
-    answers = filled.answers;
+    handed = filled.handed;
     world = filled.world;
     run = filled.run;
     fill = filled.fill;
@@ -276,11 +197,10 @@ module _ {S H : Type 0} (g : StoreGhosts S) (h : ShelfGhosts H) (Fit : Command �
       → (b : Bench S H) (away : Image) (u : World)
       → IsFilledFrom g h Fit b away u → IsFilledFrom g h More b away u
   filled_too More then b away u filled = record {
-    calls = filled.calls;
-    answers = filled.answers;
+    handed = filled.handed;
     world = filled.world;
     run = filled.run;
-    fill = λ call has. then call.command (filled.fill call has);
+    fill = each_too Fit More then filled.handed filled.fill;
     at = filled.at;
   }
 
@@ -293,13 +213,14 @@ module _ {S H : Type 0} (g : StoreGhosts S) (h : ShelfGhosts H) (Fit : Command �
         filled_too More then b away u (fills.does honest kept away u at);
   }
 
-  -- so does what holds of the calls and the world
-  pub so_too : (More : Command → Type 0) (P Q : List Call → World → Type 0)
-      → ((c : Command) → Fit c → More c) → ((xs : List Call) (w : World) → P xs w → Q xs w)
+  -- so does what holds of the series and the world
+  pub so_too : (More : Command → Type 0) (P Q : List (List Call) → World → Type 0)
+      → ((c : Command) → Fit c → More c)
+      → ((xs : List (List Call)) (w : World) → P xs w → Q xs w)
       → (a b : Bench S H) → FillsSo g h Fit P a b → FillsSo g h More Q a b
   so_too More P Q then other a b so = λ honest kept away u at.
       let it = so honest kept away u at in
-      (filled_too More then b away u it.0, other it.0.calls it.0.world it.1)
+      (filled_too More then b away u it.0, other it.0.handed it.0.world it.1)
 
 -- a call that is refused and fits one way fits another way that asks for less
 pub refused_in_too : (Next Other : Command → Type 0) → ((c : Command) → Next c → Other c)

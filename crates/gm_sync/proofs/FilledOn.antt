@@ -1,23 +1,23 @@
--- Calls that fill, of which the last command may still be to be settled.
-use Rattle.gm_sync.proofs.Common.{◌≡◌, ◌∙◌, inl, inr, ℕ, refl, sym, subst, arith, List, [], ◌∷◌, ◌++◌, Image, Command, World, Tables, DiskKept, HasTables, StoreFailed, progress_of, registry_of, shelf_of, Keep, TakesCommands, IsAt, IsHandedIn, Stands, Answer, Bench, BenchFault, Absent, Closed, Disk, Memory, Store, Ready, Failed, takes_ready, carried_so, stands_rest, ◌+◌, ◌≤◌, length, length-append, Call, CallRefusal, AnswersOn, FillsByOn, FillsSo, FillsSoOn, IsRefusedIn, FailsAsCalls, FailsOn, Fills, FillsOn, IsAnsweredOn, IsClosedBut, IsFilledOn, IsLastDone, RefusesOn}
+-- Calls that fill, of which the last series may still be to be settled.
+use Rattle.gm_sync.proofs.Common.{◌≡◌, ◌∙◌, inl, inr, ℕ, refl, sym, subst, arith, List, [], ◌∷◌, ◌++◌, Ok, Image, Command, World, Tables, DiskKept, HasTables, StoreFailed, progress_of, registry_of, shelf_of, Keep, TakesCommands, IsAt, AreHandedIn, HandsInSeries, IsCountBy, Stands, Answer, SeriesAnswer, Done, Repeated, Refused, Bench, BenchFault, Absent, Closed, Disk, Memory, Store, Ready, Failed, takes_ready, carried_so, stands_rest, ◌+◌, ◌≤◌, length, Call, CallRefusal, AllFit, AnswersOn, AreKeyedAfter, FillsByOn, FillsSo, FillsSoOn, GoesOnTo, IsAnswered, IsRefusedIn, FailsAsCalls, FailsOn, Fills, FillsOn, IsAnsweredOn, IsClosedBut, IsFilledOn, IsLastDone, RefusesOn, calls_in, keys_after, up_to_last, used_by}
 use Rattle.sqlite_trees.specs.declared.store.Store.{Ghosts as StoreGhosts}
 use Rattle.gm_shelf.specs.declared.shelf.Shelf.{Ghosts as ShelfGhosts}
 use Rattle.gm_rules.specs.AbstractCalls as run
-use Rattle.gm_bench.specs.Running.{answer_of}
-use Rattle.gm_bench.specs.declared.answer.Answer.TheVariants.{Done, Repeated, Refused}
-use Rattle.gm_sync.proofs.Filled.{either_fills, has_either, keep_none, keep_then, last_then, one_fills, run_then}
+use Rattle.gm_rules.proofs.SeriesTurns.{steps_of_run}
+use Rattle.gm_sync.proofs.Filled.{keep_none, keep_then}
+use Rattle.gm_sync.proofs.Keys.{begun_keyed, first_keyed, more_keyed}
+use Rattle.gm_sync.proofs.Series.{begun_fit, both_fill, count_more, first_fits, last_then, none_fills, one_fills, run_then, used_is}
 
 module _ {S H : Type 0} (g : StoreGhosts S) (h : ShelfGhosts H) (Fit : Command → Type 0) where
   abbrev pub filled_on_none : (a : Bench S H) (away : Image) (v u : World)
       → Stands g h (progress_of a) (registry_of a) (shelf_of a) away v u
       → IsFilledOn g h Fit a away v u
   filled_on_none a away v u stands = record {
-    calls = [];
-    answers = [];
+    handed = [];
     world = u;
     before = v;
     run = refl;
-    fill = λ call has. absurd has;
+    fill = none_fills Fit;
     last = inr (inl (refl, refl));
     stands = stands;
   }
@@ -34,16 +34,13 @@ module _ {S H : Type 0} (g : StoreGhosts S) (h : ShelfGhosts H) (Fit : Command �
       (one : IsFilledOn g h Fit b away v u) → IsFilledOn g h Fit c away one.before one.world
       → IsFilledOn g h Fit c away v u
   filled_on_then b c away v u one two = record {
-    calls = one.calls ++ two.calls;
-    answers = one.answers ++ two.answers;
+    handed = one.handed ++ two.handed;
     world = two.world;
     before = two.before;
-    run = run_then u one.calls one.world one.answers two.calls two.world two.answers one.run
-        two.run;
-    fill = λ call has. either_fills Fit one.calls two.calls one.fill two.fill call
-        (has_either one.calls two.calls call has);
-    last = last_then v u one.calls one.answers one.before one.world two.calls two.before two.world
-        one.run one.last two.last;
+    run = run_then u one.handed one.world two.handed two.world one.run two.run;
+    fill = both_fill Fit one.handed two.handed one.fill two.fill;
+    last = last_then v u one.handed one.before one.world two.handed two.before two.world one.run
+        one.last two.last;
     stands = two.stands;
   }
 
@@ -60,116 +57,170 @@ module _ {S H : Type 0} (g : StoreGhosts S) (h : ShelfGhosts H) (Fit : Command �
         (then.does (first.keep.shelf.honest honest) kept away one.before one.world one.stands);
   }
 
-  -- a command that fits and is handed in is answered by the abstract bench
-  abbrev pub answered_on : (a b : Bench S H) (away : Image) (v u : World) (key : List ℕ)
-      (command : Command) (answer : Answer) → Fit command
-      → IsHandedIn g h (progress_of b) (registry_of a) (registry_of b) (shelf_of a) (shelf_of b)
-      away v u key command answer
-      → IsAnsweredOn g h Fit b away v u answer
-  answered_on a b away v u key command (Done n reply) is it =
-      let call : Call = record { key = key; command = command } in
-      let last : IsLastDone u (call ∷ []) u it.0 = record {
+  -- a series that fits and is handed in is answered by the abstract bench
+  abbrev pub answered_on : (n : ℕ) (a b : Bench S H) (away : Image) (v u : World)
+      (calls : List Call) (answer : Answer) (count : ℕ) → AllFit Fit calls
+      → AreKeyedAfter n calls → IsCountBy calls answer count
+      → AreHandedIn g h (progress_of b) (registry_of a) (registry_of b) (shelf_of a) (shelf_of b)
+      away v u calls answer
+      → IsAnsweredOn g h Fit n b away v u answer count
+  answered_on n a b away v u calls (Done k reply) count is keyed counted it =
+      let last : IsLastDone u (calls ∷ []) u it.0 = record {
         older = [];
-        call = call;
+        calls = calls;
         newer = [];
-        answers = [];
-        reply = reply;
         all = refl;
         run = refl;
-        step = it.1.3;
+        steps = steps_of_run u it.0 calls it.1 k reply it.2 it.3;
       } in
       record {
-        call = call;
+        calls = calls;
         fit = is;
+        keys = keyed;
         world = it.0;
         before = u;
-        calls = it.1;
+        count = counted;
+        run = (it.1, it.2, it.3);
         last = inr (inr last);
-        stands = it.3;
+        stands = it.5;
       }
-  answered_on a b away v u key command (Repeated n reply) is it = record {
-    call = record { key = key; command = command };
-    fit = is;
+  answered_on n a b away v u [] (Repeated k reply) count is keyed counted it = absurd it.0
+  answered_on n a b away v u (call ∷ more) (Repeated k reply) count is keyed counted it = record {
+    calls = call ∷ [];
+    fit = first_fits Fit call more is;
+    keys = first_keyed n call more keyed;
     world = u;
     before = v;
-    calls = it.0;
+    count = counted;
+    run = (call, refl, it.0);
     last = inr (inl (refl, refl));
     stands = it.2;
   }
-  answered_on a b away v u key command (Refused why) is it = record {
-    call = record { key = key; command = command };
-    fit = is;
+  answered_on n a b away v u [] (Refused why) count is keyed counted it = absurd it.0
+  answered_on n a b away v u (call ∷ more) (Refused why) count is keyed counted it = record {
+    calls = call ∷ [];
+    fit = first_fits Fit call more is;
+    keys = first_keyed n call more keyed;
     world = u;
     before = v;
-    calls = it.0;
+    count = counted;
+    run = (call, refl, it.0);
     last = inr (inl (refl, refl));
     stands = it.2;
   }
 
+  -- so a series of a command that fits is
+  pub series_answers : (n : ℕ) (a b : Bench S H) (answered : SeriesAnswer) (key : List ℕ)
+      (more : List (List ℕ)) (c : Command) → Fit c → key ∷ more ≡ keys_after n 64
+      → HandsInSeries g h a b (Ok answered) key more c → AnswersOn g h Fit n a b answered
+  series_answers n a b answered key more c is own hands = λ honest kept away v u stands.
+      let it = hands.told honest kept in
+      let began = it.1 away v u stands in
+      let came = it.3 away v u stands in
+      answered_on n a b away v u it.0 answered.answer answered.count
+      (begun_fit Fit c (key ∷ more) it.0 is began)
+      (begun_keyed c n (key ∷ more) it.0 began own) came.0 came.1
+
   -- so the bench is filled
-  abbrev pub filled_answered : (b : Bench S H) (away : Image) (v u : World) (answer : Answer)
-      → IsAnsweredOn g h Fit b away v u answer → IsFilledOn g h Fit b away v u
-  filled_answered b away v u answer it = record {
-    calls = it.call ∷ [];
-    answers = answer_of answer ∷ [];
+  abbrev pub filled_answered : (n : ℕ) (b : Bench S H) (away : Image) (v u : World)
+      (answer : Answer) (count : ℕ) → IsAnsweredOn g h Fit n b away v u answer count
+      → IsFilledOn g h Fit b away v u
+  filled_answered n b away v u answer count it = record {
+    handed = it.calls ∷ [];
     world = it.world;
     before = it.before;
-    run = (it.world, it.calls, refl);
-    fill = one_fills Fit it.call it.fit;
+    run = (it.world, answer, it.run, refl);
+    fill = one_fills Fit it.calls it.fit;
     last = it.last;
     stands = it.stands;
   }
 
-  -- a call that was answered so after others that filled
-  answered_then : (So : List Call → World → Type 0) (a b c : Bench S H) (answer : Answer)
+  -- a series that was answered so after others that filled
+  answered_then : (So : List (List Call) → World → Type 0) (n : ℕ) (a b c : Bench S H)
+      (answered : SeriesAnswer)
       → Keep g h (registry_of a) (registry_of b) (shelf_of a) (shelf_of b)
       → Keep g h (registry_of b) (registry_of c) (shelf_of b) (shelf_of c)
-      → (P : List Call → World → Type 0) → FillsSoOn g h Fit P a b → AnswersOn g h Fit b c answer
-      → ((xs : List Call) (v w : World) (call : Call) → P xs v → Fit call.command
-      → run.Calls v call w (answer_of answer) → So (xs ++ call ∷ []) w)
+      → (P : List (List Call) → World → Type 0) → FillsSoOn g h Fit P a b
+      → AnswersOn g h Fit n b c answered
+      → ((xs : List (List Call)) (v w : World) (calls : List Call) → P xs v → AllFit Fit calls
+      → AreKeyedAfter n calls → IsCountBy calls answered.answer answered.count
+      → IsAnswered v calls w answered.answer → So (xs ++ calls ∷ []) w)
       → FillsSoOn g h Fit So a c
-  answered_then So a b c answer keep then_keep P first answers both = λ honest kept away v u stands.
+  answered_then So n a b c answered keep then_keep P first answers both =
+      λ honest kept away v u stands.
       let mid : DiskKept g (registry_of b) = omega (arith, then_keep.clean, kept) in
       let some = first honest mid away v u stands in
       let one = some.0 in
       let it = answers (keep.shelf.honest honest) kept away one.before one.world one.stands in (
-        filled_on_then b c away v u one (filled_answered c away one.before one.world answer it),
-        both one.calls one.world it.world it.call some.1 it.fit it.calls,
+        filled_on_then b c away v u one
+            (filled_answered n c away one.before one.world answered.answer answered.count it),
+        both one.handed one.world it.world it.calls some.1 it.fit it.keys it.count it.run,
       )
 
   -- it was refused
-  pub refuses_on_then : (a b c : Bench S H) (answer : Answer) (why : CallRefusal)
-      → answer ≡ Refused why → FillsOn g h Fit a b
+  pub refuses_on_then : (n : ℕ) (a b c : Bench S H) (answered : SeriesAnswer) (why : CallRefusal)
+      → answered.answer ≡ Refused why → FillsOn g h Fit a b
       → Keep g h (registry_of b) (registry_of c) (shelf_of b) (shelf_of c)
-      → AnswersOn g h Fit b c answer → RefusesOn g h Fit a c why
-  refuses_on_then a b c answer why is first keep answers =
-      answered_then (λ calls w. IsRefusedIn Fit w why) a b c answer first.keep keep
-      (λ calls w. Unit {0})
+      → AnswersOn g h Fit n b c answered → RefusesOn g h Fit a c why
+  refuses_on_then n a b c answered why is first keep answers =
+      answered_then (λ handed w. IsRefusedIn Fit w why) n a b c answered first.keep keep
+      (λ handed w. Unit {0})
       (λ honest kept away v u stands. (first.does honest kept away v u stands, tt)) answers
-      (λ xs v w call some fit calls. refused_in v w call answer is fit calls)
+      (λ xs v w calls some fit keyed counted it. refused_in v w calls answered.answer is fit it)
     where
-      refused_in : (v w : World) (call : Call) (x : Answer) → x ≡ Refused why → Fit call.command
-          → run.Calls v call w (answer_of x) → IsRefusedIn Fit w why
-      refused_in v w call x same fit calls =
-          let told = subst (λ (y : Answer). run.Calls v call w (answer_of y)) same calls in
+      refused_in : (v w : World) (calls : List Call) (x : Answer) → x ≡ Refused why
+          → AllFit Fit calls → IsAnswered v calls w x → IsRefusedIn Fit w why
+      refused_in v w calls x same fit it =
+          let told = subst (λ (y : Answer). IsAnswered v calls w y) same it in
+          let stays : w ≡ v = told.2.0 in
           record {
-            call = call;
-            fit = fit;
-            calls = subst (λ (z : World). run.Calls z call w (run.Refused why)) (sym told.0) told;
+            call = told.0;
+            fit = (subst (λ (cs : List Call). AllFit Fit cs) told.1 fit).1 told.0 (inl refl);
+            calls = subst (λ (z : World). run.Calls z told.0 w (run.Refused why)) (sym stays)
+                told.2;
           }
 
-  -- it is one more
-  pub by_on_then : (a b c : Bench S H) (answer : Answer) (n : ℕ)
+  -- it is one call more, at least
+  pub by_on_then : (n : ℕ) (a b c : Bench S H) (answered : SeriesAnswer) (many : ℕ)
       → Keep g h (registry_of a) (registry_of b) (shelf_of a) (shelf_of b)
       → Keep g h (registry_of b) (registry_of c) (shelf_of b) (shelf_of c)
-      → FillsByOn g h Fit a b n → AnswersOn g h Fit b c answer → FillsByOn g h Fit a c (n + 1)
-  by_on_then a b c answer n keep then_keep first answers =
-      answered_then (λ calls w. n + 1 ≤ length calls) a b c answer keep then_keep
-      (λ calls w. n ≤ length calls) first answers
-      (λ xs v w call some fit calls. one_more xs call some)
+      → FillsByOn g h Fit a b many → AnswersOn g h Fit n b c answered
+      → FillsByOn g h Fit a c (many + 1)
+  by_on_then n a b c answered many keep then_keep first answers =
+      answered_then (λ handed w. many + 1 ≤ length (calls_in handed)) n a b c answered keep
+      then_keep (λ handed w. many ≤ length (calls_in handed)) first answers
+      (λ xs v w calls some fit keyed counted it. one_more xs calls some fit.0)
     where
-      one_more : (xs : List Call) (call : Call) → n ≤ length xs → n + 1 ≤ length (xs ++ call ∷ [])
-      one_more xs call some = omega (arith, length-append xs (call ∷ []), some)
+      one_more : (xs : List (List Call)) (calls : List Call) → many ≤ length (calls_in xs)
+          → (calls ≡ [] → ⊥) → many + 1 ≤ length (calls_in (xs ++ calls ∷ []))
+      one_more xs [] some not = absurd (not refl)
+      one_more xs (call ∷ calls) some not =
+          let all = count_more xs (call ∷ calls) in omega (arith, all, some)
+
+  -- its keys follow, and the number goes on by those that it uses
+  pub numbers_then : (a b c : Bench S H) (answered : SeriesAnswer) (from number used to : ℕ)
+      → Keep g h (registry_of a) (registry_of b) (shelf_of a) (shelf_of b)
+      → Keep g h (registry_of b) (registry_of c) (shelf_of b) (shelf_of c)
+      → GoesOnTo g h Fit a b from number → AnswersOn g h Fit number b c answered
+      → used ≡ used_by answered → to ≡ up_to_last (number + used) → GoesOnTo g h Fit a c from to
+  numbers_then a b c answered from number used to keep then_keep first answers uses is =
+      answered_then
+      (λ handed w. AreKeyedAfter from (calls_in handed)
+      × (up_to_last to ≡ up_to_last (from + length (calls_in handed)))) number a b c answered keep
+      then_keep
+      (λ handed w. AreKeyedAfter from (calls_in handed)
+      × (up_to_last number ≡ up_to_last (from + length (calls_in handed)))) first answers
+      (λ xs v w calls some fit keyed counted it.
+      let same = some.1 in
+      let as_many = used_is v calls w answered.answer answered.count it counted in
+      let all = count_more xs calls in (
+        more_keyed from number xs calls some.0 same keyed,
+        omega (arith, is, uses, same, as_many, all),
+      ))
+
+  pub numbers_none : (a : Bench S H) (from : ℕ) → GoesOnTo g h Fit a a from from
+  numbers_none a from = λ honest kept away v u stands.
+      (filled_on_none a away v u stands, (refl, omega arith))
 
   pub by_on_none : (a : Bench S H) → FillsByOn g h Fit a a 0
   by_on_none a = λ honest kept away v u stands. (filled_on_none a away v u stands, omega arith)
@@ -180,22 +231,18 @@ module _ {S H : Type 0} (g : StoreGhosts S) (h : ShelfGhosts H) (Fit : Command �
       let it = by honest kept away v u stands in
       let many = it.1 in (it.0, omega (arith, few, many))
 
-  -- a command that fits and is handed in
-  pub fills_on_next : (a b : Bench S H) (key : List ℕ) (command : Command) (answer : Answer)
-      → Fit command → (progress_of a ≡ Failed → ⊥) → (progress_of b ≡ Failed → ⊥)
+  -- a series that fits and is handed in
+  pub fills_on_next : (n : ℕ) (a b : Bench S H) (answered : SeriesAnswer)
+      → (progress_of a ≡ Failed → ⊥) → (progress_of b ≡ Failed → ⊥)
       → Keep g h (registry_of a) (registry_of b) (shelf_of a) (shelf_of b)
-      → (h.honest (shelf_of a) → DiskKept g (registry_of b) → (away : Image) (v u : World)
-      → Stands g h (progress_of a) (registry_of a) (shelf_of a) away v u
-      → IsHandedIn g h (progress_of b) (registry_of a) (registry_of b) (shelf_of a)
-      (shelf_of b) away v u key command answer)
-      → FillsOn g h Fit a b
-  fills_on_next a b key command answer is before after keep answers = record {
+      → AnswersOn g h Fit n a b answered → FillsOn g h Fit a b
+  fills_on_next n a b answered before after keep answers = record {
     failed = λ e. absurd (before e);
     goes_on = λ e. absurd (after e);
     keep = keep;
     does = λ honest kept away v u stands.
-        filled_answered b away v u answer
-        (answered_on a b away v u key command answer is (answers honest kept away v u stands));
+        filled_answered n b away v u answered.answer answered.count
+        (answers honest kept away v u stands);
   }
 
   -- and settled
@@ -214,8 +261,7 @@ module _ {S H : Type 0} (g : StoreGhosts S) (h : ShelfGhosts H) (Fit : Command �
         let it = first.does honest mid away u u (stands_rest g h (progress_of a)
         (registry_of a) (shelf_of a) away u takes at) in
         record {
-          calls = it.calls;
-          answers = it.answers;
+          handed = it.handed;
           world = it.world;
           run = it.run;
           fill = it.fill;
@@ -223,8 +269,8 @@ module _ {S H : Type 0} (g : StoreGhosts S) (h : ShelfGhosts H) (Fit : Command �
         };
   }
 
-  -- what holds of the calls and the world before the last was settled
-  pub so_settled : (So : List Call → World → Type 0) (a b c : Bench S H)
+  -- what holds of the series and the world before the last was settled
+  pub so_settled : (So : List (List Call) → World → Type 0) (a b c : Bench S H)
       → TakesCommands (progress_of a)
       → Keep g h (registry_of a) (registry_of b) (shelf_of a) (shelf_of b)
       → Keep g h (registry_of b) (registry_of c) (shelf_of b) (shelf_of c)
@@ -237,8 +283,7 @@ module _ {S H : Type 0} (g : StoreGhosts S) (h : ShelfGhosts H) (Fit : Command �
       let it = so honest mid away u u (stands_rest g h (progress_of a) (registry_of a)
       (shelf_of a) away u takes at) in (
         record {
-          calls = it.0.calls;
-          answers = it.0.answers;
+          handed = it.0.handed;
           world = it.0.world;
           run = it.0.run;
           fill = it.0.fill;

@@ -1,11 +1,14 @@
+pub mod Advances
 pub mod Amiss
 pub mod Common
 pub mod Ended
 pub mod Faults
 pub mod Filled
 pub mod FilledOn
+pub mod Keys
 pub mod Next
 pub mod Passing
+pub mod Series
 pub mod Still
 pub mod Stops
 pub mod SyncRuns

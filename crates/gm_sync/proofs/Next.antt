@@ -1,5 +1,5 @@
 -- What is next is due.
-use Rattle.gm_sync.proofs.Common.{◌≡◌, ◌⊎◌, ⊎_elim, cases_lt, inl, inr, sym, ap, ◌∙◌, subst, arith, ◌≤◌, ◌+◌, ℕ, suc, refl, length, List, [], ◌∷◌, Bool, None, Some, find, get_or, slice_get, zero, ◌<◌, false, true, Command, Component, Records, Bench, BenchFault, CallRefusal, Due, FailsFilling, Fills, FillsBy, IsRefusedIn, IsAdvanceIn, IsAdvanceOf, IsAdvanceOn, Refuses, RefusesOneOf, is_due, is_filling, is_next}
+use Rattle.gm_sync.proofs.Common.{◌≡◌, ◌⊎◌, ⊎_elim, cases_lt, inl, inr, sym, ap, ◌∙◌, subst, arith, ◌≤◌, ◌+◌, ℕ, suc, refl, length, List, [], ◌∷◌, Bool, None, Some, find, get_or, slice_get, zero, ◌<◌, false, true, Command, Component, Records, Bench, BenchFault, CallRefusal, Due, FailsFilling, Fills, FillsBy, IsRefusedIn, IsAdvanceIn, IsAdvanceOf, IsAdvanceOn, Refuses, RefusesOneOf, is_due, is_filling, is_next, calls_in}
 use Rattle.sqlite_trees.specs.declared.store.Store.{Ghosts as StoreGhosts}
 use Rattle.gm_metadata.proofs.Labels.{both}
 use Rattle.gm_shelf.specs.declared.shelf.Shelf.{Ghosts as ShelfGhosts}
@@ -24,14 +24,15 @@ module _ (due : Due) (s : Records) (k : Component) (next : is_next due s k ≡ t
     pub refuses_next : (why : CallRefusal) → Refuses g h (IsAdvanceOf k) (IsAdvanceOf k) a b why
         → RefusesOneOf g h due a b k.provider why
     refuses_next why = so_too g h (IsAdvanceOf k) (IsAdvanceIn due)
-        (λ calls w. IsRefusedIn (IsAdvanceOf k) w why)
-        (λ calls w. IsRefusedIn (IsAdvanceOn due k.provider) w why) advance_in
-        (λ calls w it. refused_in_too (IsAdvanceOf k) (IsAdvanceOn due k.provider) advance_on w why
+        (λ handed w. IsRefusedIn (IsAdvanceOf k) w why)
+        (λ handed w. IsRefusedIn (IsAdvanceOn due k.provider) w why) advance_in
+        (λ handed w it. refused_in_too (IsAdvanceOf k) (IsAdvanceOn due k.provider) advance_on w why
         it) a b
 
     pub by_next : (n : ℕ) → FillsBy g h (IsAdvanceOf k) a b n → FillsBy g h (IsAdvanceIn due) a b n
-    by_next n = so_too g h (IsAdvanceOf k) (IsAdvanceIn due) (λ calls w. n ≤ length calls)
-        (λ calls w. n ≤ length calls) advance_in (λ calls w it. it) a b
+    by_next n = so_too g h (IsAdvanceOf k) (IsAdvanceIn due)
+        (λ handed w. n ≤ length (calls_in handed)) (λ handed w. n ≤ length (calls_in handed))
+        advance_in (λ handed w it. it) a b
 
     pub fails_next : (fault : BenchFault) → FailsFilling g h (IsAdvanceOf k) a b fault
         → FailsFilling g h (IsAdvanceIn due) a b fault

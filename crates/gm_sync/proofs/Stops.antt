@@ -1,10 +1,10 @@
 -- Where a fault leaves a bench that is filled.
-use Rattle.gm_sync.proofs.Common.{◌≡◌, inl, inr, ℕ, refl, sym, subst, arith, List, [], ◌++◌, Result, Ok, Err, OnErr, OnOk, Held, Image, Has, Command, World, Call, Run, DiskKept, progress_of, registry_of, shelf_of, ClosesOnFault, Keep, LooksOn, LeavesNext, LeavesOnly, TakesCommands, TellsStore, IsAt, Stands, Bench, BenchFault, Memory, Failed, done_at_rest, carried_so, stands_rest, AreCarriedOut, FailsFilling, FailsFillingOn, FailsOn, FaultLeavesFrom, FaultLeavesOn, Fills, FillsOn, IsFilledFrom, IsFilledOn, IsLast, StopsBetween, StopsNext}
+use Rattle.gm_sync.proofs.Common.{◌≡◌, inl, inr, ℕ, refl, sym, subst, arith, List, [], ◌∷◌, ◌++◌, Result, Ok, Err, OnErr, OnOk, Held, Image, Command, World, Call, DiskKept, HandsInSeries, AllFit, EachFits, InSeries, progress_of, registry_of, shelf_of, ClosesOnFault, Keep, LooksOn, LeavesNext, LeavesOnly, TakesCommands, TellsStore, IsAt, Stands, Bench, BenchFault, Memory, Failed, done_at_rest, carried_so, stands_rest, AreCarriedOut, FailsFilling, FailsFillingOn, FailsOn, FaultLeavesFrom, FaultLeavesOn, Fills, FillsOn, IsFilledFrom, IsFilledOn, IsLast, StopsBetween, StopsNext}
 use Rattle.sqlite_trees.specs.declared.store.Store.{Ghosts as StoreGhosts}
 use Rattle.gm_shelf.specs.declared.shelf.Shelf.{Ghosts as ShelfGhosts}
-use Rattle.gm_rules.specs.AbstractCalls as run
 use Rattle.gm_sync.proofs.Faults.{fails_then, look_fails, memory_fails}
-use Rattle.gm_sync.proofs.Filled.{either_fills, filled_then, filled_too, has_either, last_then, run_then}
+use Rattle.gm_sync.proofs.Filled.{filled_then, filled_too}
+use Rattle.gm_sync.proofs.Series.{all_too, begun_fit, both_fill, each_too, last_then, none_fills, run_then}
 use Rattle.gm_sync.proofs.FilledOn.{fails_from_rest, fails_on_then, fails_settled, filled_on_none, filled_on_then, memory_fails_on}
 
 module _ {S H : Type 0} (g : StoreGhosts S) (h : ShelfGhosts H) (Fit : Command → Type 0) where
@@ -16,8 +16,7 @@ module _ {S H : Type 0} (g : StoreGhosts S) (h : ShelfGhosts H) (Fit : Command �
       let was = carried_so g h (progress_of b) (registry_of b) (shelf_of b) away it.before it.world
       it.stands in
       record {
-        calls = it.calls;
-        answers = it.answers;
+        handed = it.handed;
         world = it.world;
         before = it.before;
         run = it.run;
@@ -33,34 +32,30 @@ module _ {S H : Type 0} (g : StoreGhosts S) (h : ShelfGhosts H) (Fit : Command �
       → IsAt g h (registry_of b) (shelf_of b) away [] [] u u
       → AreCarriedOut g h Fit (registry_of b) (shelf_of b) away u u
   carried_none b away u at = record {
-    calls = [];
-    answers = [];
+    handed = [];
     world = u;
     before = u;
     run = refl;
-    fill = λ call has. absurd has;
+    fill = none_fills Fit;
     last = inl refl;
     intents = [];
     bytes = [];
     at = done_at_rest g h (registry_of b) (shelf_of b) away u at;
   }
 
-  -- these calls came before
-  module _ (away : Image) (v u : World) (calls : List Call) (answers : List run.Answer)
-      (before world : World) (ran : Run u calls world answers)
-      (fill : (call : Call) → Has calls call → Fit call.command)
-      (last : IsLast v u calls before world) where
+  -- these series came before
+  module _ (away : Image) (v u : World) (handed : List (List Call)) (before world : World)
+      (ran : InSeries u handed world) (fill : EachFits Fit handed)
+      (last : IsLast v u handed before world) where
     abbrev carried_then : (r : Held S) (k : H) → AreCarriedOut g h Fit r k away before world
         → AreCarriedOut g h Fit r k away v u
     carried_then r k it = record {
-      calls = calls ++ it.calls;
-      answers = answers ++ it.answers;
+      handed = handed ++ it.handed;
       world = it.world;
       before = it.before;
-      run = run_then u calls world answers it.calls it.world it.answers ran it.run;
-      fill = λ call has. either_fills Fit calls it.calls fill it.fill call
-          (has_either calls it.calls call has);
-      last = last_then v u calls answers before world it.calls it.before it.world ran last it.last;
+      run = run_then u handed world it.handed it.world ran it.run;
+      fill = both_fill Fit handed it.handed fill it.fill;
+      last = last_then v u handed before world it.handed it.before it.world ran last it.last;
       intents = it.intents;
       bytes = it.bytes;
       at = it.at;
@@ -72,7 +67,7 @@ module _ {S H : Type 0} (g : StoreGhosts S) (h : ShelfGhosts H) (Fit : Command �
       registry = it.registry;
       shelf = it.shelf;
       carried = carried_then it.registry it.shelf it.carried;
-      call = it.call;
+      calls = it.calls;
       fit = it.fit;
       left = it.left;
       failed = it.failed;
@@ -96,8 +91,7 @@ module _ {S H : Type 0} (g : StoreGhosts S) (h : ShelfGhosts H) (Fit : Command �
   on_then b c away v u fault one (inl (memory, filled)) =
       inl (memory, filled_on_then g h Fit b c away v u one filled)
   on_then b c away v u fault one (inr stops) =
-      inr (next_then away v u one.calls one.answers one.before one.world one.run one.fill one.last c
-      stops)
+      inr (next_then away v u one.handed one.before one.world one.run one.fill one.last c stops)
 
   from_then : (b c : Bench S H) (away : Image) (u : World) (fault : BenchFault)
       (one : IsFilledFrom g h Fit b away u)
@@ -105,11 +99,11 @@ module _ {S H : Type 0} (g : StoreGhosts S) (h : ShelfGhosts H) (Fit : Command �
   from_then b c away u fault one (inl (memory, filled)) =
       inl (memory, filled_then g h Fit b c away u one filled)
   from_then b c away u fault one (inr (inl stops)) =
-      inr (inl (next_then away u u one.calls one.answers one.world one.world one.run one.fill
-      (inl refl) c stops))
+      inr (inl (next_then away u u one.handed one.world one.world one.run one.fill (inl refl) c
+      stops))
   from_then b c away u fault one (inr (inr stops)) =
-      inr (inr (between_then away u u one.calls one.answers one.world one.world one.run one.fill
-      (inl refl) c stops))
+      inr (inr (between_then away u u one.handed one.world one.world one.run one.fill (inl refl) c
+      stops))
 
   pub fails_filling_on_then : (a b c : Bench S H) (fault : BenchFault) → FillsOn g h Fit a b
       → Keep g h (registry_of b) (registry_of c) (shelf_of b) (shelf_of c)
@@ -151,27 +145,44 @@ module _ {S H : Type 0} (g : StoreGhosts S) (h : ShelfGhosts H) (Fit : Command �
         inl (refl, filled_on_none g h Fit a away v u stands);
   }
 
-  -- a call that fits failed
-  pub next_fails : (a b : Bench S H) (key : List ℕ) (command : Command) (fault : BenchFault)
-      → Fit command → FailsOn g h a b fault → progress_of b ≡ Failed
+  -- a series that fits failed
+  pub next_fails : (a b : Bench S H) (fault : BenchFault) → FailsOn g h a b fault
+      → progress_of b ≡ Failed
       → (h.honest (shelf_of a) → DiskKept g (registry_of b) → (away : Image) (v u : World)
       → Stands g h (progress_of a) (registry_of a) (shelf_of a) away v u
-      → LeavesNext g h (registry_of a) (registry_of b) (shelf_of a) (shelf_of b) away v u key
-      command)
+      → (calls : List Call) × AllFit Fit calls × LeavesNext g h (registry_of a) (registry_of b)
+      (shelf_of a) (shelf_of b) away v u calls)
       → FailsFillingOn g h Fit a b fault
-  next_fails a b key command fault is told failed leaves = record {
+  next_fails a b fault told failed leaves = record {
     told = told;
     closed = inr failed;
-    leaves = λ honest kept away v u stands. inr (record {
-      registry = registry_of a;
-      shelf = shelf_of a;
-      carried = carried_on a away v u (filled_on_none g h Fit a away v u stands);
-      call = record { key = key; command = command };
-      fit = is;
-      left = leaves honest kept away v u stands;
-      failed = failed;
-    });
+    leaves = λ honest kept away v u stands. inr (
+        let next = leaves honest kept away v u stands in
+        record {
+          registry = registry_of a;
+          shelf = shelf_of a;
+          carried = carried_on a away v u (filled_on_none g h Fit a away v u stands);
+          calls = next.0;
+          fit = next.1;
+          left = next.2;
+          failed = failed;
+        });
   }
+
+  -- so a series of a command that fits does
+  pub series_leaves : (a b : Bench S H) (fault : BenchFault) (key : List ℕ)
+      (more : List (List ℕ)) (c : Command) → Fit c
+      → HandsInSeries g h a b (Err fault) key more c
+      → h.honest (shelf_of a) → DiskKept g (registry_of b) → (away : Image) (v u : World)
+      → Stands g h (progress_of a) (registry_of a) (shelf_of a) away v u
+      → (calls : List Call) × AllFit Fit calls × LeavesNext g h (registry_of a) (registry_of b)
+      (shelf_of a) (shelf_of b) away v u calls
+  series_leaves a b fault key more c is hands honest kept away v u stands =
+      let it = hands.told honest kept in (
+        it.0,
+        begun_fit Fit c (key ∷ more) it.0 is (it.1 away v u stands),
+        inl (it.2 away v u stands),
+      )
 
   -- a look failed
   pub look_fails_filling : (a b : Bench S H) {T : Type 0} (r : Result T BenchFault)
@@ -193,12 +204,11 @@ module _ {S H : Type 0} (g : StoreGhosts S) (h : ShelfGhosts H) (Fit : Command �
     abbrev carried_too : (r : Held S) (k : H) (away : Image) (v u : World)
         → AreCarriedOut g h Fit r k away v u → AreCarriedOut g h More r k away v u
     carried_too r k away v u it = record {
-      calls = it.calls;
-      answers = it.answers;
+      handed = it.handed;
       world = it.world;
       before = it.before;
       run = it.run;
-      fill = λ call has. then call.command (it.fill call has);
+      fill = each_too Fit More then it.handed it.fill;
       last = it.last;
       intents = it.intents;
       bytes = it.bytes;
@@ -213,8 +223,8 @@ module _ {S H : Type 0} (g : StoreGhosts S) (h : ShelfGhosts H) (Fit : Command �
       registry = it.registry;
       shelf = it.shelf;
       carried = carried_too it.registry it.shelf away u u it.carried;
-      call = it.call;
-      fit = then it.call.command it.fit;
+      calls = it.calls;
+      fit = all_too Fit More then it.calls it.fit;
       left = it.left;
       failed = it.failed;
     }))
@@ -266,8 +276,7 @@ module _ {S H : Type 0} (g : StoreGhosts S) (h : ShelfGhosts H) (Fit : Command �
         inl (
           memory,
           record {
-            calls = filled.calls;
-            answers = filled.answers;
+            handed = filled.handed;
             world = filled.world;
             run = filled.run;
             fill = filled.fill;

@@ -4,13 +4,11 @@ use Rattle.std.specs.Prelude.{◌≡◌, ◌⊎◌, ℕ, Bool, List, []}
 use Rattle.sqlite_trees.specs.declared.store.Store.{Ghosts as StoreGhosts}
 use Rattle.sqlite.specs.Held.{Held}
 use Rattle.gm_metadata.specs.Images.{Image}
-use Rattle.gm_lists.specs.Ordered.{Has}
 use Rattle.gm_shelf.specs.declared.shelf.Shelf.{Ghosts as ShelfGhosts}
 use Rattle.gm_commands.specs.declared.command.Command.{Command}
 use Rattle.gm_state.specs.declared.intents.Intent.{Intent}
 use Rattle.gm_state.specs.World.{World}
-use Rattle.gm_rules.specs.AbstractCalls.{Call, Run}
-use Rattle.gm_rules.specs.AbstractCalls as run
+use Rattle.gm_rules.specs.AbstractCalls.{Call}
 use Rattle.gm_registry.specs.Registry.{DiskKept}
 use Rattle.gm_bench.specs.Benches.{progress_of, registry_of, shelf_of}
 use Rattle.gm_bench.specs.Recovering.{IsAt, IsCarriedOut, LeavesOnly}
@@ -21,37 +19,37 @@ use Rattle.gm_bench.specs.declared.fault.BenchFault.TheVariants.{Memory}
 use Rattle.gm_bench.specs.declared.phase.Progress.TheVariants.{Failed}
 use Rattle.gm_sync.specs.declared.passed_over.PassedOver.{PassedOver}
 use Rattle.gm_sync.specs.declared.scope.Scope.{Scope}
-use Rattle.gm_sync.specs.Filling.{FailsAsCalls, FailsOn, IsAdvanceIn, IsClosedBut, IsFilledFrom, IsFilledOn, IsLast, PassesByAudit}
+use Rattle.gm_sync.specs.Filling.{FailsAsCalls, FailsOn, IsAdvanceIn, IsClosedBut, IsFilledFrom, IsFilledOn, PassesByAudit}
 use Rattle.gm_sync.specs.Scopes.{but}
+use Rattle.gm_sync.specs.Series.{AllFit, EachFits, InSeries, IsLast}
 
 -- no command
 abbrev pub IsNone : Command → Type 0
 IsNone c = ⊥
 
 module _ {S H : Type 0} (g : StoreGhosts S) (h : ShelfGhosts H) (Fit : Command → Type 0) where
-  -- From u, and v was before, these calls that fit were handed in and carried out; the last that
-  -- was done is perhaps still to be settled.
+  -- From u, and v was before, these series of calls that fit were handed in and carried out; the
+  -- last that was done is perhaps still to be settled.
   pub record AreCarriedOut (r : Held S) (k : H) (away : Image) (v u : World) : Type 0 where
-    pub calls : List Call
-    pub answers : List run.Answer
+    pub handed : List (List Call)
     pub world : World
     pub before : World
-    pub run : Run u calls world answers
-    pub fill : (call : Call) → Has calls call → Fit call.command
-    pub last : IsLast v u calls before world
+    pub run : InSeries u handed world
+    pub fill : EachFits Fit handed
+    pub last : IsLast v u handed before world
     pub intents : List Intent
     pub bytes : List (List ℕ)
     pub at : IsCarriedOut g h r k away intents bytes before world
 
-  -- After them the bench failed at the next call, which fits.
+  -- After them the bench failed at the next series, of calls that fit, which is one commit.
   pub record StopsNext (b : Bench S H) (away : Image) (v u : World) : Type 0 where
     pub registry : Held S
     pub shelf : H
     pub carried : AreCarriedOut registry shelf away v u
-    pub call : Call
-    pub fit : Fit call.command
+    pub calls : List Call
+    pub fit : AllFit Fit calls
     pub left : LeavesNext g h registry (registry_of b) shelf (shelf_of b) away carried.before
-        carried.world call.key call.command
+        carried.world calls
     pub failed : progress_of b ≡ Failed
 
   -- After them the bench failed as it settled the last, or as it was looked at.
@@ -82,7 +80,7 @@ module _ {S H : Type 0} (g : StoreGhosts S) (h : ShelfGhosts H) (Fit : Command �
       → IsAt g h (registry_of old) (shelf_of old) away [] [] u u
       → FaultLeavesFrom new away u fault
 
-  -- A call that fills failed, and the last command may still be to be settled.
+  -- A call that fills failed, and the last series may still be to be settled.
   pub record FailsFillingOn (old new : Bench S H) (fault : BenchFault) : Type 0 where
     pub told : FailsOn g h old new fault
     pub closed : IsClosedBut new fault

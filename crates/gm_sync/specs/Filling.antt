@@ -1,5 +1,5 @@
 -- What filling leaves of a bench, and what it is told to have come to.
-use Rattle.std.specs.Prelude.{◌≡◌, ◌<◌, ◌≤◌, ◌⊎◌, ℕ, Bool, true, false, List, [], ◌∷◌, ◌++◌, None, Result, OnOk, length}
+use Rattle.std.specs.Prelude.{◌≡◌, ◌<◌, ◌≤◌, ◌⊎◌, ◌+◌, ℕ, Bool, true, false, List, [], ◌∷◌, None, Result, OnOk, length}
 use Rattle.sqlite_trees.specs.declared.store.Store.{Ghosts as StoreGhosts}
 use Rattle.sqlite.specs.Held.{Held}
 use Rattle.gm_metadata.specs.Images.{Image, Sizes}
@@ -9,7 +9,6 @@ use Rattle.gm_commands.specs.declared.command.Command.{Command}
 use Rattle.gm_commands.specs.declared.command.Command.TheVariants.{Advance}
 use Rattle.gm_refusals.specs.declared.refusals.CallRefusal.{CallRefusal}
 use Rattle.gm_state.specs.declared.intents.Intent.{Intent}
-use Rattle.gm_state.specs.declared.intents.Reply.{Reply}
 use Rattle.gm_state.specs.declared.records.Mirror.{Mirror}
 use Rattle.gm_state.specs.declared.records.Component.{Component}
 use Rattle.gm_state.specs.Intents.{IsOf}
@@ -18,18 +17,18 @@ use Rattle.gm_state.specs.Rows.{Tables}
 use Rattle.gm_state.specs.World.{World}
 use Rattle.gm_rules.specs.AbstractCalls.{Call, Run}
 use Rattle.gm_rules.specs.AbstractCalls as run
-use Rattle.gm_rules.specs.Step.{Step}
 use Rattle.gm_rows.specs.ReadableTables.{AreRecordsOf}
 use Rattle.gm_registry.specs.Fitting.{HasRoom}
 use Rattle.gm_registry.specs.Registry.{DiskKept, HasTables, Reads, StoreFailed, seen}
 use Rattle.gm_looks.specs.Audits.{IsAsRegistered}
 use Rattle.gm_bench.specs.Benches.{progress_of, registry_of, shelf_of}
-use Rattle.gm_bench.specs.Calls.{Keep, most_rows}
+use Rattle.gm_bench.specs.Calls.{Keep, rows_for}
 use Rattle.gm_bench.specs.Owed.{LookDoes}
+use Rattle.gm_bench.specs.Phases.{IsCountBy}
 use Rattle.gm_bench.specs.Recovering.{IsAt, IsCarriedOut}
-use Rattle.gm_bench.specs.Running.{answer_of}
 use Rattle.gm_bench.specs.Standing.{Stands}
 use Rattle.gm_bench.specs.declared.answer.Answer.{Answer}
+use Rattle.gm_bench.specs.declared.answer.SeriesAnswer.{SeriesAnswer}
 use Rattle.gm_bench.specs.declared.bench.Bench.{Bench}
 use Rattle.gm_bench.specs.declared.fault.BenchFault.{BenchFault}
 use Rattle.gm_bench.specs.declared.fault.BenchFault.TheVariants.{Absent, Closed, Disk, Memory, Store}
@@ -39,6 +38,7 @@ use Rattle.gm_sync.specs.declared.passed_over.PassedOver.{PassedOver}
 use Rattle.gm_sync.specs.declared.scope.Scope.{Scope}
 use Rattle.gm_sync.specs.declared.synced.Synced.{Synced}
 use Rattle.gm_sync.specs.Ends.{EndsAs}
+use Rattle.gm_sync.specs.Series.{AllFit, AreKeyedAfter, EachFits, InSeries, IsAnswered, IsLast, calls_in, up_to_last}
 use Rattle.gm_sync.specs.Scopes.{PassesNone, but, is_beside, is_due, is_passed_over, next_of}
 
 -- the command fills this component
@@ -55,23 +55,6 @@ abbrev pub IsAdvanceOn : Due → List ℕ → Command → Type 0
 IsAdvanceOn due provider c = (mirror : List ℕ) × (c ≡ Advance mirror provider)
     × (is_due due mirror provider ≡ true)
 
--- the last of these calls that was done led from before to world
-pub record IsLastDone (u : World) (calls : List Call) (before world : World) : Type 0 where
-  pub older : List Call
-  pub call : Call
-  pub newer : List Call
-  pub answers : List run.Answer
-  pub reply : Reply
-  pub all : calls ≡ older ++ call ∷ newer
-  pub run : Run u older before answers
-  pub step : Step before call.key call.command world reply
-
--- What waits to be settled after these calls leads from before to world: nothing, what waited
--- before them and led from v to u, or the last of them that was done.
-abbrev pub IsLast : World → World → List Call → World → World → Type 0
-IsLast v u calls before world =
-    (before ≡ world) ⊎ (((before ≡ v) × (world ≡ u)) ⊎ IsLastDone u calls before world)
-
 -- In this world a call that fits is refused so.
 pub record IsRefusedIn (Fit : Command → Type 0) (w : World) (why : CallRefusal) : Type 0 where
   pub call : Call
@@ -79,13 +62,12 @@ pub record IsRefusedIn (Fit : Command → Type 0) (w : World) (why : CallRefusal
   pub calls : run.Calls w call w (run.Refused why)
 
 module _ {S H : Type 0} (g : StoreGhosts S) (h : ShelfGhosts H) (Fit : Command → Type 0) where
-  -- From rest in u the bench came to rest again, by commands that fit and no others.
+  -- From rest in u the bench came to rest again, by series of commands that fit and no others.
   pub record IsFilledFrom (b : Bench S H) (away : Image) (u : World) : Type 0 where
-    pub calls : List Call
-    pub answers : List run.Answer
+    pub handed : List (List Call)
     pub world : World
-    pub run : Run u calls world answers
-    pub fill : (call : Call) → Has calls call → Fit call.command
+    pub run : InSeries u handed world
+    pub fill : EachFits Fit handed
     pub at : IsAt g h (registry_of b) (shelf_of b) away [] [] world world
 
   -- A call that fills: both media are kept, and of an honest shelf and a disk that keeps what is
@@ -97,19 +79,18 @@ module _ {S H : Type 0} (g : StoreGhosts S) (h : ShelfGhosts H) (Fit : Command �
         → IsAt g h (registry_of old) (shelf_of old) away [] [] u u
         → IsFilledFrom new away u
 
-  -- If the bench stood for u, and v was before, it stands for another world, by commands that fit
-  -- and no others.
+  -- If the bench stood for u, and v was before, it stands for another world, by series of commands
+  -- that fit and no others.
   pub record IsFilledOn (b : Bench S H) (away : Image) (v u : World) : Type 0 where
-    pub calls : List Call
-    pub answers : List run.Answer
+    pub handed : List (List Call)
     pub world : World
     pub before : World
-    pub run : Run u calls world answers
-    pub fill : (call : Call) → Has calls call → Fit call.command
-    pub last : IsLast v u calls before world
+    pub run : InSeries u handed world
+    pub fill : EachFits Fit handed
+    pub last : IsLast v u handed before world
     pub stands : Stands g h (progress_of b) (registry_of b) (shelf_of b) away before world
 
-  -- A call that fills, of which the last command may still be to be settled.
+  -- A call that fills, of which the last series may still be to be settled.
   pub record FillsOn (old new : Bench S H) : Type 0 where
     pub failed : progress_of old ≡ Failed → progress_of new ≡ Failed
     pub goes_on : progress_of new ≡ Failed → progress_of old ≡ Failed
@@ -119,56 +100,63 @@ module _ {S H : Type 0} (g : StoreGhosts S) (h : ShelfGhosts H) (Fit : Command �
         → Stands g h (progress_of old) (registry_of old) (shelf_of old) away v u
         → IsFilledOn new away v u
 
-  -- A call that fits was answered so by a bench that stood for u, and v was before: the bench
-  -- stands for the world that the answer reaches.
-  pub record IsAnsweredOn (b : Bench S H) (away : Image) (v u : World) (answer : Answer)
-      : Type 0 where
-    pub call : Call
-    pub fit : Fit call.command
+  -- A series of calls that fit, under the keys after a number, was answered so by a bench that
+  -- stood for u, and v was before: the bench stands for the world that the answer reaches.
+  pub record IsAnsweredOn (number : ℕ) (b : Bench S H) (away : Image) (v u : World)
+      (answer : Answer) (many : ℕ) : Type 0 where
+    pub calls : List Call
+    pub fit : AllFit Fit calls
+    pub keys : AreKeyedAfter number calls
     pub world : World
     pub before : World
-    pub calls : run.Calls u call world (answer_of answer)
-    pub last : IsLast v u (call ∷ []) before world
+    pub count : IsCountBy calls answer many
+    pub run : IsAnswered u calls world answer
+    pub last : IsLast v u (calls ∷ []) before world
     pub stands : Stands g h (progress_of b) (registry_of b) (shelf_of b) away before world
 
-  -- what is answered is what the abstract bench answers to a call that fits
-  abbrev pub AnswersOn : Bench S H → Bench S H → Answer → Type 0
-  AnswersOn old new answer =
+  -- what is answered is what the abstract bench answers to such a series
+  abbrev pub AnswersOn : ℕ → Bench S H → Bench S H → SeriesAnswer → Type 0
+  AnswersOn number old new answered =
       h.honest (shelf_of old) → DiskKept g (registry_of new) → (away : Image) (v u : World)
       → Stands g h (progress_of old) (registry_of old) (shelf_of old) away v u
-      → IsAnsweredOn new away v u answer
+      → IsAnsweredOn number new away v u answered.answer answered.count
 
-  -- the bench was filled, the last command perhaps still to be settled, and this holds of the calls
+  -- the bench was filled, the last series perhaps still to be settled, and this holds of the series
   -- and the world that they reach
-  abbrev pub FillsSoOn : (List Call → World → Type 0) → Bench S H → Bench S H → Type 0
+  abbrev pub FillsSoOn : (List (List Call) → World → Type 0) → Bench S H → Bench S H → Type 0
   FillsSoOn So old new =
       h.honest (shelf_of old) → DiskKept g (registry_of new) → (away : Image) (v u : World)
       → Stands g h (progress_of old) (registry_of old) (shelf_of old) away v u
-      → (filled : IsFilledOn new away v u) × So filled.calls filled.world
+      → (filled : IsFilledOn new away v u) × So filled.handed filled.world
 
   -- the same from rest to rest
-  abbrev pub FillsSo : (List Call → World → Type 0) → Bench S H → Bench S H → Type 0
+  abbrev pub FillsSo : (List (List Call) → World → Type 0) → Bench S H → Bench S H → Type 0
   FillsSo So old new =
       h.honest (shelf_of old) → DiskKept g (registry_of new) → (away : Image) (u : World)
       → IsAt g h (registry_of old) (shelf_of old) away [] [] u u
-      → (filled : IsFilledFrom new away u) × So filled.calls filled.world
+      → (filled : IsFilledFrom new away u) × So filled.handed filled.world
 
   -- it was filled by at least so many calls
   abbrev pub FillsByOn : Bench S H → Bench S H → ℕ → Type 0
-  FillsByOn old new count = FillsSoOn (λ calls w. count ≤ length calls) old new
+  FillsByOn old new count = FillsSoOn (λ handed w. count ≤ length (calls_in handed)) old new
 
   abbrev pub FillsBy : Bench S H → Bench S H → ℕ → Type 0
-  FillsBy old new count = FillsSo (λ calls w. count ≤ length calls) old new
+  FillsBy old new count = FillsSo (λ handed w. count ≤ length (calls_in handed)) old new
+
+  -- the calls have the keys after a number, and another number is that of the last
+  abbrev pub GoesOnTo : Bench S H → Bench S H → ℕ → ℕ → Type 0
+  GoesOnTo old new from to = FillsSoOn (λ handed w. AreKeyedAfter from (calls_in handed)
+      × (up_to_last to ≡ up_to_last (from + length (calls_in handed)))) old new
 
   -- it was filled until a call was refused so that fits, or that fits this
   abbrev pub RefusesOn : Bench S H → Bench S H → CallRefusal → Type 0
-  RefusesOn old new why = FillsSoOn (λ calls w. IsRefusedIn Fit w why) old new
+  RefusesOn old new why = FillsSoOn (λ handed w. IsRefusedIn Fit w why) old new
 
   abbrev pub Refuses : (Command → Type 0) → Bench S H → Bench S H → CallRefusal → Type 0
-  Refuses Next old new why = FillsSo (λ calls w. IsRefusedIn Next w why) old new
+  Refuses Next old new why = FillsSo (λ handed w. IsRefusedIn Next w why) old new
 
 module _ {S H : Type 0} (g : StoreGhosts S) (h : ShelfGhosts H) where
-  -- The store failed at the last call, if it could number the rows of a command when that was made.
+  -- The store failed at the last series, if it could number the rows of one when that was made.
   -- What was still to be settled then was carried out.
   pub record StoreFailedLast (new : Bench S H) (away : Image) : Type 0 where
     pub before : Bench S H
@@ -178,7 +166,7 @@ module _ {S H : Type 0} (g : StoreGhosts S) (h : ShelfGhosts H) where
     pub bytes : List (List ℕ)
     pub at : IsCarriedOut g h (registry_of before) (shelf_of before) away intents bytes
         earlier world
-    pub failed : HasRoom most_rows (seen g (registry_of before))
+    pub failed : HasRoom (rows_for 63) (seen g (registry_of before))
         → StoreFailed g (registry_of before) (registry_of new)
 
   -- A fault of several calls is told as the bench's own calls tell it: `Closed` only of a bench

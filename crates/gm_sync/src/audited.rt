@@ -19,7 +19,8 @@ use std::alloc::Global;
 
 /// Fills whatever is meant and SYNCHRONIZING. If an audit is asked for, it passes over the mirrors
 /// of which an image isn't as it is registered. The commands are handed in under the keys `sync-N`,
-/// each with the number that it would get, or with a greater one if that was taken.
+/// each with the number that it would get, or with a greater one if that was taken; up to 64
+/// together, in one commit. After a stop at most the last of these series is missing, all of it.
 pub fn sync<S: Alter, H: Shelf, P: Progress>(
     alloc: Global,
     bench: &mut Bench<S, H>,
@@ -35,8 +36,8 @@ pub fn sync<S: Alter, H: Shelf, P: Progress>(
     // What it passes over are just the mirrors of which an image isn't as it is registered.
     ensures audited { IfOk result (λ synced. PassesByAudit S.Store H.Shelf bench.old bench.new
         scope.now audits synced.passed_over) }
-    // The commands that it handed in before a fault were advances of what is due, and what a stop
-    // then leaves leads on.
+    // The commands that it handed in before a fault were advances of what is due, in series, and
+    // what a stop then leaves leads on.
     ensures faults { IfErr result
         (FailsToSync S.Store H.Shelf bench.old bench.new scope.now audits) }
 {

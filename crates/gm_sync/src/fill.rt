@@ -1,41 +1,62 @@
 //! Fills what is SYNCHRONIZING.
 
-ghost use Rattle.std.specs.Prelude.{◌≡◌, IfErr, IfOk, OnOk};
+ghost use Rattle.std.specs.Prelude.{◌≡◌, IfErr, IfOk, OnOk, map, string_bytes};
 ghost use Rattle.gm_bench.specs.Benches.{progress_of, registry_of, shelf_of};
 ghost use Rattle.gm_bench.specs.Calls.{Keep};
 ghost use Rattle.gm_bench.specs.Phases.{TakesCommands, TakesNext};
 ghost use Rattle.gm_sync.specs.Ends.{ComponentEnds, EndsAs, FillsEach, unfilled_at};
 ghost use Rattle.gm_sync.specs.Faults.{FailsFilling, FailsFillingOn};
-ghost use Rattle.gm_sync.specs.Filling.{AnswersOn, Fills, FillsBy, FillsByOn, FillsOn, IsAdvanceIn, IsAdvanceOf, IsStill, IsWhole, Refuses, RefusesOn, RefusesOneOf};
+ghost use Rattle.gm_sync.specs.Filling.{AnswersOn, Fills, FillsBy, FillsByOn, FillsOn, GoesOnTo, IsAdvanceIn, IsAdvanceOf, IsStill, IsWhole, Refuses, RefusesOn, RefusesOneOf};
+ghost use Rattle.gm_sync.specs.Series.{key_of, keys_after, used_by};
 
 use crate::due::Due;
 use crate::synced::Ending;
-use gm_bench::{Answer, Bench, BenchFault};
-use gm_commands::Command;
+use gm_bench::{Answer, Bench, BenchFault, MAX_SERIES, SeriesAnswer};
 use gm_metadata::Label;
 use gm_refusals::CallRefusal;
 use gm_shelf::Shelf;
 use gm_state::{Component, Reply, State};
 use sqlite::Alter;
-use std::alloc::Global;
+use std::alloc::{AllocError, Global};
 
 /// Is told what is filled.
 pub trait Progress {
     /// The mirrors, and how many commands were accepted until then: before the first component is
     /// filled, and after the last.
     fn looked(&mut self, state: &State, accepted: u64);
-    /// A component has so many data sectors, of so many in all.
+    /// A component has so many data sectors, of so many in all. It is told once a series of
+    /// stretches.
     fn filled(&mut self, provider: Label, held: u32, total: u32);
 }
 
-// One stretch of a component, and how it is answered under a key that is made from a number. It
-// settles the stretch before, and is still to be settled.
+// The key of a number.
+fn key_of(alloc: Global, number: u64) -> Result<String, AllocError>
+    ensures { IfOk result (λ key. string_bytes key ≡ key_of number) }
+{
+    format!(in alloc; "sync-{number}")
+}
+
+// The keys after a number, as many as a series has.
+fn keys_after(alloc: Global, number: u64) -> Result<Vec<String>, AllocError>
+    ensures { IfOk result (λ keys. map string_bytes keys.items ≡ keys_after number 64) }
+{
+    let mut keys = Vec::with_capacity(alloc, MAX_SERIES)?;
+    let mut number = number;
+    for _ in 0..MAX_SERIES {
+        number = number.saturating_add(1);
+        keys.push(key_of(alloc, number)?)?;
+    }
+    Ok(keys)
+}
+
+// A series of stretches of a component, and how it is answered under the keys after a number. It
+// settles the series before, and is still to be settled.
 fn advance<S: Alter, H: Shelf>(
     alloc: Global,
     bench: &mut Bench<S, H>,
     component: &Component,
     number: u64,
-) -> Result<Answer, BenchFault>
+) -> Result<SeriesAnswer, BenchFault>
     requires { TakesNext (progress_of bench.old) }
     ensures phase { TakesNext (progress_of bench.new) }
     ensures keep { Keep S.Store H.Shelf (registry_of bench.old) (registry_of bench.new)
@@ -43,20 +64,27 @@ fn advance<S: Alter, H: Shelf>(
     ensures fills { OnOk result
         (FillsOn S.Store H.Shelf (IsAdvanceOf component.now) bench.old bench.new) }
     ensures answers { IfOk result
-        (AnswersOn S.Store H.Shelf (IsAdvanceOf component.now) bench.old bench.new) }
+        (AnswersOn S.Store H.Shelf (IsAdvanceOf component.now) number bench.old bench.new) }
     ensures faults { IfErr result
         (FailsFillingOn S.Store H.Shelf (IsAdvanceOf component.now) bench.old bench.new) }
 {
-    let command = Command::Advance {
-        name: component.mirror,
-        provider: component.provider,
-    };
-    match format!(in alloc; "sync-{number}") {
-        Ok(key) => {
-            let answer = bench.hand_in(alloc, key.as_str(), &command)?;
-            Ok(answer)
+    match keys_after(alloc, number) {
+        Ok(keys) => {
+            let (name, provider) = (component.mirror, component.provider);
+            let answered = bench.hand_in_series(alloc, keys.as_slice(), name, provider)?;
+            Ok(answered.unwrap())
         }
         Err(_) => Err(BenchFault::Memory),
+    }
+}
+
+// How many of the keys are used: those of what is done, or the first.
+fn used_by(answered: &SeriesAnswer) -> u64
+    ensures { result ≡ used_by answered.now }
+{
+    match answered.answer {
+        Answer::Done(_, _) => answered.count,
+        Answer::Repeated(_, _) | Answer::Refused(_) => 1,
     }
 }
 
@@ -67,12 +95,12 @@ enum ComponentEnd {
     Filled,
     // An advance is refused.
     Refused(CallRefusal),
-    // So often an advance was asked for, and the component still isn't filled.
+    // So often a series was asked for, and the component still isn't filled.
     Endless,
 }
 
 // Fills one component, or finds why that is refused. The number is that of the last key; keys that
-// were taken before are gone round. The last stretch is still to be settled.
+// were taken before are gone round. The last series is still to be settled.
 fn fill_stretches<S: Alter, H: Shelf, P: Progress>(
     alloc: Global,
     bench: &mut Bench<S, H>,
@@ -91,10 +119,13 @@ fn fill_stretches<S: Alter, H: Shelf, P: Progress>(
         (FillsByOn S.Store H.Shelf (IsAdvanceOf component.now) bench.old bench.new)) }
     ensures faults { IfErr result
         (FailsFillingOn S.Store H.Shelf (IsAdvanceOf component.now) bench.old bench.new) }
+    ensures numbers { OnOk result (GoesOnTo S.Store H.Shelf (IsAdvanceOf component.now)
+        bench.old bench.new number.old number.new) }
 {
     for _ in 0..u64::MAX {
-        *number = number.saturating_add(1);
-        match advance(alloc, bench, component, *number)? {
+        let answered = advance(alloc, bench, component, *number)?;
+        *number = number.saturating_add(used_by(&answered));
+        match answered.answer {
             Answer::Done(_, Reply::Copied { held, total }) => {
                 progress.filled(component.provider, held, total);
                 if held == total {
@@ -109,7 +140,7 @@ fn fill_stretches<S: Alter, H: Shelf, P: Progress>(
     Ok(ComponentEnd::Endless)
 }
 
-// The same, and settles the last stretch.
+// The same, and settles the last series.
 fn fill_one<S: Alter, H: Shelf, P: Progress>(
     alloc: Global,
     bench: &mut Bench<S, H>,

@@ -18,8 +18,9 @@ use sqlite::Alter;
 
 /// A sync is a part of a schedule, of an honest shelf and a disk that keeps what is written. A
 /// bench that is at rest after accepted commands, as the law over schedules says, is so after the
-/// sync as well, with those of its commands that were done; and if the sync failed, whatever a stop
-/// then leaves leads on, with the command that was running or without.
+/// sync as well, with those of its series that were done, each in one commit; and if the sync
+/// failed, whatever a stop then leaves leads on, with all of the series that was running or without
+/// it.
 pub fn whole_sync_law<S: Alter, H: Shelf>()
     ensures { (all : Sizes) (old new : Bench S H) (away : Image) (acc ack : List Entry)
         (scope : Scope) (audits : Bool) (result : Result Synced BenchFault)

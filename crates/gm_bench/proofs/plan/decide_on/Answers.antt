@@ -1,4 +1,4 @@
-use Rattle.gm_bench.proofs.Common.{rules, ◌≤◌, Err, IfOk, length, sym, ap, subst, IsState, words_of, Changed, Makes, seen_in, IsFitting}
+use Rattle.gm_bench.proofs.Common.{rules, ◌≡◌, ◌≤◌, [], Err, IfOk, length, sym, ap, subst, IsState, words_of, Changed, Makes, seen_in, IsFitting}
 use Rattle.gm_bench.proofs.Causes.{fault_is}
 use Rattle.gm_bench.proofs.FittingPlans.{made_fits, made_of}
 use Rattle.gm_bench.proofs.PlannedAlone.{planned_hand, planned_state}
@@ -12,6 +12,7 @@ returns-in_err-planned-in-Ok-Ok c =
       not_store = search rules;
       fault = search rules;
       fits = search rules;
+      once = search rules;
       readable = λ is fits state few most itself.
           let part = c.args.part.now in
           let facts = c.args.facts.now in
@@ -43,6 +44,15 @@ returns-in_ok-planned-in-Ok-Ok c =
           subst (λ (ch : Changed). IsFitting ch (words_of command) t)
           (sym c.in_ok-planned-in-Ok-Ok.ensures.planned.0)
           (made_fits s facts command c.in-Ok-Ok.change t are fits makes itself);
+      once = λ state few most.
+          let part = c.args.part.now in
+          let facts = c.args.facts.now in
+          let command = c.args.command.now in
+          let alone = subst (λ r. IfOk r (λ ch. IsState part → length part.mirrors ≤ c.args.count
+          → c.args.count ≤ 64 → Makes part (seen_in facts) command ch)) c.in-Ok-Ok.field-0-is
+          c.in-Ok-Ok.ensures.alone in
+          subst (λ (ch : Changed). ch.further ≡ [])
+          (sym c.in_ok-planned-in-Ok-Ok.ensures.planned.0) (alone state few most).once;
       readable = search rules;
       at_hand = λ fits state few most size tells.
           let part = c.args.part.now in

@@ -1,7 +1,7 @@
 use Rattle.gm_registry.proofs.CountedThrough.{left_numbered}
-use Rattle.gm_registry.proofs.FittingInTurn.{left_uncounted, next_uncounted}
+use Rattle.gm_registry.proofs.FittingInTurn.{left_numbers, next_numbers}
 use Rattle.gm_registry.proofs.InsideCalls.{committed_change, undone_change}
-use Rattle.gm_registry.proofs.Common.{changed_in, left_of, with_entry, HasRoom, FitsTables, rows_in, WritesGiven, count_of, Tables, Held, Trees, ◌≡◌, ◌+◌, rules, subst}
+use Rattle.gm_registry.proofs.Common.{changed_in, left_of, with_entry, HasRoom, FitsTables, rows_in, WritesGiven, count_of, Tables, Held, Trees, ◌≡◌, ◌≤◌, ◌^◌, ◌+◌, length, arith, rules, subst}
 use Rattle.gm_registry.proofs.accept.write_entry.Goals as goal
 
 pub returns-in_err-put_over : goal.returns-in_err-put_over
@@ -13,7 +13,7 @@ returns-in_err-put_over g c =
     let given : Tables → Type 0 = λ t. n ≡ count_of t + 1 in
     let change : Tables → Tables = λ t. with_entry e n (left_of p t) in
     let fits : Trees → Tables → Type 0 = λ db t. FitsTables (changed_in e) e.key.now e.words.now
-    (left_of p t) × HasRoom (rows_in e) db in
+    (left_of p t) × (n + length e.change.now.further + 1 ≤ 2 ^ 32) × HasRoom (rows_in e) db in
     let end : Held _ = c.drop-tx.new.self.0 in
     let same : end ≡ c.conn-1.given.0 = search rules in
     let x = c.from_residual.result in
@@ -22,8 +22,9 @@ returns-in_err-put_over g c =
     c.transaction-tx.ensures.begun given change fits x c.in_err-put_over.ensures
     (λ t was next fit. (
       fit.0,
-      left_uncounted n p t (next_uncounted n t was.tables.rows.numbered next),
-      fit.1,
+      left_numbers n (length e.change.now.further + 1) p t (next_numbers n
+          (length e.change.now.further + 1) t was.tables.rows.numbered next (omega (arith, fit.1))),
+      fit.2,
     )) c.drop-tx.ensures.survives c.drop-tx.ensures.undone c.from_residual.ensures.1)
 
 pub returns : goal.returns
@@ -35,7 +36,7 @@ returns g c =
     let given : Tables → Type 0 = λ t. n ≡ count_of t + 1 in
     let change : Tables → Tables = λ t. with_entry e n (left_of p t) in
     let fits : Trees → Tables → Type 0 = λ db t. FitsTables (changed_in e) e.key.now e.words.now
-    (left_of p t) × HasRoom (rows_in e) db in
+    (left_of p t) × (n + length e.change.now.further + 1 ≤ 2 ^ 32) × HasRoom (rows_in e) db in
     let end : Held _ = c.commit.new.self.0 in
     let same : end ≡ c.conn-2-1.given.0 = search rules in
     let x = c.commit.result in

@@ -1,67 +1,71 @@
-use Rattle.gm_sync.proofs.Common.{refl, ap, inl, Err, rules, carried_open, carried_records, carried_so, carried_tables, else_none, FailsFillingOn, FailsOn, IsAdvanceOf}
+use Rattle.gm_sync.proofs.Common.{◌≡◌, Ok, Option, SeriesAnswer, keys_after, refl, subst, map, string_bytes, rules, carried_open, Advance, FailsFillingOn, HandsInAdvances, IsAdvanceOf}
+use Rattle.gm_sync.proofs.Advances.{answered_so, failed_so, is_some, series_fails, takes_after, takes_failed}
 use Rattle.gm_sync.proofs.Faults.{told}
-use Rattle.gm_sync.proofs.FilledOn.{answered_on, fills_on_next}
-use Rattle.gm_sync.proofs.Stops.{memory_fails_filling_on, next_fails}
+use Rattle.gm_sync.proofs.FilledOn.{fills_on_next, series_answers}
+use Rattle.gm_sync.proofs.Stops.{memory_fails_filling_on, next_fails, series_leaves}
 use Rattle.gm_sync.proofs.fill.advance.Goals as goal
 
-pub returns-in-Ok-clause-fills : goal.returns-in-Ok-clause-fills
-returns-in-Ok-clause-fills g c =
-    let ran = c.in_ok-answer-in-Ok.ensures in
-    fills_on_next g.S.Store g.H.Shelf (IsAdvanceOf c.args.component.now) c.args.bench.now
-    c.hand_in.new.self _ _ c.in_ok-answer-in-Ok.answer refl ran.not_failed
-    (carried_open c.args.bench.now.progress c.hand_in.new.self.progress
-    c.in_ok-answer-in-Ok.answer ran.not_failed ran.phase)
-    ran.runs.keep ran.answers
+pub unwrap-requires : goal.unwrap-requires
+unwrap-requires g c =
+    let texts = c.as_slice.result.now in
+    let own : map string_bytes texts ≡ keys_after c.args.number 64 = search rules in
+    is_some g.S.Store g.H.Shelf c.args.bench.now c.hand_in_series.new.self
+    (map string_bytes texts)
+    (Advance c.args.component.now.mirror c.args.component.now.provider) c.args.number own
+    c.in_ok-answered-in-Ok.answered c.in_ok-answered-in-Ok.ensures
 
-pub returns-in-Ok-clause-answers : goal.returns-in-Ok-clause-answers
-returns-in-Ok-clause-answers g c = λ honest kept away v u stands.
-    answered_on g.S.Store g.H.Shelf (IsAdvanceOf c.args.component.now) c.args.bench.now
-    c.hand_in.new.self away v u _ _ c.in_ok-answer-in-Ok.answer refl
-    (c.in_ok-answer-in-Ok.ensures.answers honest kept away v u stands)
-
-pub returns-in_err-answer-in-Ok-clause-faults : goal.returns-in_err-answer-in-Ok-clause-faults
-returns-in_err-answer-in-Ok-clause-faults g c =
-    let ran = c.in_err-answer-in-Ok.ensures in
-    let why : FailsOn g.S.Store g.H.Shelf c.args.bench.now c.hand_in.new.self
-    c.in_err-answer-in-Ok.field-0.0 = record {
-      reopen = λ e. ran.closes.reopen (ap Err e);
-      absent = λ p e. ran.closes.absent p (ap Err e);
-      disk = λ honest kept away v u stands e.
-          let shelf = c.args.bench.now.media.shelf in
-          let was = carried_so g.S.Store g.H.Shelf c.args.bench.now.progress
-          c.args.bench.now.media.registry shelf away v u stands in
-          let are = carried_tables g.S.Store g.H.Shelf
-          c.args.bench.now.media.registry shelf away was.intents was.bytes v u was.at
-          (g.met.H.Shelf.lawful shelf honest) in
-          ran.runs.disk kept was.at.tables u.state was.at.has
-          (carried_records was.at.tables u.state was.intents was.bytes are) (ap Err e);
-      store = λ honest kept away v u stands e.
-          let shelf = c.args.bench.now.media.shelf in
-          let was = carried_so g.S.Store g.H.Shelf c.args.bench.now.progress
-          c.args.bench.now.media.registry shelf away v u stands in
-          let are = carried_tables g.S.Store g.H.Shelf
-          c.args.bench.now.media.registry shelf away was.intents was.bytes v u was.at
-          (g.met.H.Shelf.lawful shelf honest) in
-          record {
-            before = c.args.bench.now;
-            earlier = v;
-            world = u;
-            intents = was.intents;
-            bytes = was.bytes;
-            at = was.at;
-            failed = λ room.
-                ran.rows.store kept (ap Err e) was.at.tables u.state was.at.has
-                (carried_records was.at.tables u.state was.intents was.bytes are)
-                (else_none c.args.bench.now.progress was.at.tables u.state was.intents was.bytes
-                was.waits are) room tt;
-          };
-    } in
-    told (FailsFillingOn g.S.Store g.H.Shelf (IsAdvanceOf c.args.component.now) c.args.bench.now
-    c.hand_in.new.self) _ c.in_err-answer-in-Ok.field-0.0 (search rules)
-    (next_fails g.S.Store g.H.Shelf (IsAdvanceOf c.args.component.now) c.args.bench.now
-    c.hand_in.new.self _ _ c.in_err-answer-in-Ok.field-0.0 refl why ran.closes.failed
-    (λ honest kept away v u stands. inl (ran.leaves honest kept away v u stands)))
-
-pub returns-clause-faults : goal.returns-clause-faults
-returns-clause-faults g c = memory_fails_filling_on g.S.Store g.H.Shelf
+pub returns-in-Err-clause-faults : goal.returns-in-Err-clause-faults
+returns-in-Err-clause-faults g c = memory_fails_filling_on g.S.Store g.H.Shelf
     (IsAdvanceOf c.args.component.now) c.args.bench.now
+
+pub returns-in_ok-answered-in-Ok : goal.returns-in_ok-answered-in-Ok
+returns-in_ok-answered-in-Ok g c =
+    let fit = IsAdvanceOf c.args.component.now in
+    let command = Advance c.args.component.now.mirror c.args.component.now.provider in
+    let old = c.args.bench.now in
+    let new = c.hand_in_series.new.self in
+    let answer = c.unwrap.result in
+    let texts = c.as_slice.result.now in
+    let own : map string_bytes texts ≡ keys_after c.args.number 64 = search rules in
+    let it = answered_so g.S.Store g.H.Shelf old new (map string_bytes texts) command
+    c.args.number own answer
+    (subst (λ (o : Option SeriesAnswer).
+    HandsInAdvances g.S.Store g.H.Shelf old new (Ok o) (map string_bytes texts) command)
+    c.unwrap.ensures c.in_ok-answered-in-Ok.ensures) in
+    let answers = series_answers g.S.Store g.H.Shelf fit c.args.number old new answer it.key
+    it.more command refl it.own it.hands in
+    record {
+      phase = takes_after old.progress new.progress answer.answer c.requires it.hands.phase;
+      keep = it.hands.runs.keep;
+      fills = fills_on_next g.S.Store g.H.Shelf fit c.args.number old new answer it.hands.not_failed
+          (carried_open old.progress new.progress answer.answer it.hands.not_failed
+          it.hands.phase) it.hands.runs.keep answers;
+      answers = answers;
+      faults = tt;
+    }
+
+pub returns-in_err-answered-in-Ok : goal.returns-in_err-answered-in-Ok
+returns-in_err-answered-in-Ok g c =
+    let fit = IsAdvanceOf c.args.component.now in
+    let mirror = c.args.component.now.mirror in
+    let provider = c.args.component.now.provider in
+    let old = c.args.bench.now in
+    let new = c.hand_in_series.new.self in
+    let fault = c.in_err-answered-in-Ok.field-0.0 in
+    let texts = c.as_slice.result.now in
+    let own : map string_bytes texts ≡ keys_after c.args.number 64 = search rules in
+    let it = failed_so g.S.Store g.H.Shelf old new (map string_bytes texts)
+    (Advance mirror provider) c.args.number own fault c.in_err-answered-in-Ok.ensures in
+    record {
+      phase = takes_failed new.progress it.hands.closes.failed;
+      keep = it.hands.runs.keep;
+      fills = search rules;
+      answers = search rules;
+      faults = told (FailsFillingOn g.S.Store g.H.Shelf fit old new) _ fault (search rules)
+          (next_fails g.S.Store g.H.Shelf fit old new fault
+          (series_fails g.S.Store g.H.Shelf old new mirror provider fault it.key it.more it.few
+          it.hands g.met.H.Shelf.lawful)
+          it.hands.closes.failed
+          (series_leaves g.S.Store g.H.Shelf fit old new fault it.key it.more
+          (Advance mirror provider) refl it.hands));
+    }

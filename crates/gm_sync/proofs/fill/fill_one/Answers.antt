@@ -1,4 +1,4 @@
-use Rattle.gm_sync.proofs.Common.{rules, ◌≡◌, ◌∙◌, Err, refl, sym, ap, Failed, Ready, FailsFilling, FillsBy, FillsByOn, IsAdvanceOf, IsRefusedIn, Refuses, RefusesOn, length, ◌≤◌}
+use Rattle.gm_sync.proofs.Common.{rules, ◌≡◌, ◌∙◌, Err, refl, sym, ap, Failed, Ready, FailsFilling, FillsBy, FillsByOn, IsAdvanceOf, IsRefusedIn, Refuses, RefusesOn, length, ◌≤◌, calls_in}
 use Rattle.gm_sync.proofs.Ended.{component_too}
 use Rattle.gm_sync.proofs.Faults.{told}
 use Rattle.gm_sync.proofs.FilledOn.{fills_settled, settling_fails, so_settled}
@@ -26,9 +26,9 @@ returns-clause-ends g c =
     let d = c.settle_waiting-settled.new.self in
     component_too (RefusesOn g.S.Store g.H.Shelf fit a b) (Refuses g.S.Store g.H.Shelf fit fit a d)
     (FillsByOn g.S.Store g.H.Shelf fit a b) (FillsBy g.S.Store g.H.Shelf fit a d)
-    (λ why so. so_settled g.S.Store g.H.Shelf fit (λ calls w. IsRefusedIn fit w why) a b d
+    (λ why so. so_settled g.S.Store g.H.Shelf fit (λ handed w. IsRefusedIn fit w why) a b d
     c.requires c.in_ok-end.ensures.keep (search rules) c.in_ok-settled.ensures.does so)
-    (λ n so. so_settled g.S.Store g.H.Shelf fit (λ calls w. n ≤ length calls) a b d
+    (λ n so. so_settled g.S.Store g.H.Shelf fit (λ handed w. n ≤ length (calls_in handed)) a b d
     c.requires c.in_ok-end.ensures.keep (search rules) c.in_ok-settled.ensures.does so)
     c.in_ok-end.end c.in_ok-end.ensures.ends
 

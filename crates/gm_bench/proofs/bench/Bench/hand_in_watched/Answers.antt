@@ -1,161 +1,71 @@
-use Rattle.gm_bench.proofs.Common.{rules, ◌∙◌, ◌<◌, Err, sym, ap, subst, arith, Held, DiskKept, GoesOn, Sizes, AreAtHand}
+use Rattle.gm_bench.proofs.Common.{rules, Err, ap}
 use Rattle.gm_bench.proofs.Causes.{fault_is}
-use Rattle.gm_bench.proofs.Phases.{has_pending, in_fault, never_pending}
-use Rattle.gm_bench.proofs.Carried.{carried_handed, is_work, rest_handed, unaccepted, uncarried, work}
+use Rattle.gm_bench.proofs.OneHandedIn.{one_handed, one_left, read_under}
+use Rattle.gm_bench.proofs.Phases.{in_fault}
 use Rattle.gm_bench.proofs.bench.Bench.hand_in_watched.Goals as goal
 
-pub returns-in_err-answer : goal.returns-in_err-answer
-returns-in_err-answer g c =
+pub returns-in_err-answered : goal.returns-in_err-answered
+returns-in_err-answered g c =
+    let old = c.args.self.now in
+    let new = c.hand_in_keys.new.self in
     record {
       answers = search rules;
       leaves = λ h clean.
-          in_fault c.from_residual.result (unaccepted g.S.Store g.H.Shelf
-          c.args.self.now.media.registry
-          c.accept_watched.new.self.media.registry c.args.self.now.media.shelf
-          c.accept_watched.new.self.media.shelf
-          c.args.key.now c.args.command.now c.args.self.now.progress
-          (c.accept_watched.ensures.leaves h clean)
-          c.accept_watched.ensures.accepts.only.keeps.size);
+          let it = c.in_err-answered.ensures.told h clean in
+          in_fault c.from_residual.result (λ away v u stands.
+          one_left g.S.Store g.H.Shelf old.progress old.media.registry new.media.registry
+          old.media.shelf new.media.shelf away v u c.args.key.now c.args.command.now it.0
+          (it.1 away v u stands) (it.2 away v u stands));
       not_failed = search rules;
       phase = search rules;
       rows = record {
-        readable = λ clean is.
-            c.in_err-answer.ensures.rows.readable clean
-            (ap Err (fault_is c.from_residual.result _ _ c.from_residual.ensures.1 is));
+        readable = λ clean is t r has records few written honest.
+            c.in_err-answered.ensures.rows.readable clean
+            (ap Err (fault_is c.from_residual.result _ _ c.from_residual.ensures.1 is)) t r has
+            records (read_under c.args.key.now t few written) honest;
         store = λ clean is.
-            c.in_err-answer.ensures.rows.store clean
+            c.in_err-answered.ensures.rows.store clean
             (ap Err (fault_is c.from_residual.result _ _ c.from_residual.ensures.1 is));
         goes_on = search rules;
       };
-      runs = search rules;
-      closes = search rules;
-    }
-
-pub returns-in_ok-apply-in-Pending : goal.returns-in_ok-apply-in-Pending
-returns-in_ok-apply-in-Pending g c =
-    record {
-      answers = λ h clean. (
-          let mid : DiskKept g.S.Store c.accept_watched.new.self.media.registry =
-          omega (arith, clean, c.apply.ensures.carries.keep.clean) in
-          let before = c.args.self.now.progress in
-          let never = never_pending before c.requires in
-          let told = c.in_ok-answer.ensures.answers h mid in
-          let leaves = c.accept_watched.ensures.leaves h mid in
-          let pending = sym c.phase.ensures ∙ c.in-Pending.is in
-          let honest = c.accept_watched.ensures.accepts.only.keeps.honest h in
-          let mine = work g.S.Store g.H.Shelf c.args.self.now.media.registry
-          c.accept_watched.new.self.media.registry c.args.self.now.media.shelf
-          c.accept_watched.new.self.media.shelf
-          c.args.key.now c.args.command.now before leaves c.in_ok-answer.answer
-          c.accept_watched.new.self.progress never told pending in
-          let is = is_work g.S.Store g.H.Shelf c.args.self.now.media.registry
-          c.accept_watched.new.self.media.registry c.args.self.now.media.shelf
-          c.accept_watched.new.self.media.shelf
-          c.args.key.now c.args.command.now before leaves c.in_ok-answer.answer
-          c.accept_watched.new.self.progress never told pending in
-          let did = c.in_ok-apply-in-Pending.ensures.does honest mine is in
-          carried_handed g.S.Store g.H.Shelf c.args.self.now.media.registry
-          c.accept_watched.new.self.media.registry c.args.self.now.media.shelf
-          c.accept_watched.new.self.media.shelf
-          c.args.key.now c.args.command.now before leaves c.in_ok-answer.answer
-          c.accept_watched.new.self.progress never told pending c.apply.new.self.media.registry
-          c.apply.new.self.media.shelf c.apply.new.self.progress c.apply.ensures.carries.registry
-          c.accept_watched.ensures.accepts.only.keeps.size did.0 did.1
-          (c.apply.ensures.leaves honest mine is));
-      leaves = search rules;
-      not_failed = search rules;
-      phase = search rules;
-      rows = record {
-        readable = search rules;
-        store = search rules;
-        goes_on = λ clean t s has records. (
-            let mid : DiskKept g.S.Store c.accept_watched.new.self.media.registry =
-            omega (arith, clean, c.apply.ensures.carries.keep.clean) in
-            subst (λ (x : Held g.row.S.Denot). GoesOn g.S.Store c.args.self.now.media.registry x)
-            (sym c.apply.ensures.carries.registry)
-            (c.in_ok-answer.ensures.rows.goes_on mid t s has records));
-      };
-      runs = search rules;
-      closes = search rules;
-    }
-
-pub returns-in_err-apply-in-Pending : goal.returns-in_err-apply-in-Pending
-returns-in_err-apply-in-Pending g c =
-    record {
-      answers = search rules;
-      leaves = λ h clean. (
-          let mid : DiskKept g.S.Store c.accept_watched.new.self.media.registry =
-          omega (arith, clean, c.apply.ensures.carries.keep.clean) in
-          let before = c.args.self.now.progress in
-          let never = never_pending before c.requires in
-          let told = c.in_ok-answer.ensures.answers h mid in
-          let leaves = c.accept_watched.ensures.leaves h mid in
-          let pending = sym c.phase.ensures ∙ c.in-Pending.is in
-          let honest = c.accept_watched.ensures.accepts.only.keeps.honest h in
-          let mine = work g.S.Store g.H.Shelf c.args.self.now.media.registry
-          c.accept_watched.new.self.media.registry c.args.self.now.media.shelf
-          c.accept_watched.new.self.media.shelf
-          c.args.key.now c.args.command.now before leaves c.in_ok-answer.answer
-          c.accept_watched.new.self.progress never told pending in
-          let is = is_work g.S.Store g.H.Shelf c.args.self.now.media.registry
-          c.accept_watched.new.self.media.registry c.args.self.now.media.shelf
-          c.accept_watched.new.self.media.shelf
-          c.args.key.now c.args.command.now before leaves c.in_ok-answer.answer
-          c.accept_watched.new.self.progress never told pending in
-          in_fault c.from_residual-in_err-apply-in-Pending.result (uncarried g.S.Store g.H.Shelf
-          c.args.self.now.media.registry
-          c.accept_watched.new.self.media.registry c.args.self.now.media.shelf
-          c.accept_watched.new.self.media.shelf
-          c.args.key.now c.args.command.now before leaves c.in_ok-answer.answer
-          c.accept_watched.new.self.progress never told pending c.apply.new.self.media.registry
-          c.apply.new.self.media.shelf c.apply.ensures.carries.registry
-          c.accept_watched.ensures.accepts.only.keeps.size (c.apply.ensures.leaves honest mine
-          is)));
-      not_failed = search rules;
-      phase = search rules;
-      rows = search rules;
       runs = record {
         keep = search rules;
         undone = search rules;
-        disk = λ clean t s has records told. (
-            let j = g.H.Shelf in
-            let mid : DiskKept g.S.Store c.accept_watched.new.self.media.registry =
-            omega (arith, clean, c.apply.ensures.carries.keep.clean) in
-            let pending = has_pending c.accept_watched.new.self.progress
-            (sym c.phase.ensures ∙ c.in-Pending.is) in
-            let more : (j.view c.accept_watched.new.self.media.shelf).faults
-            < (j.view c.apply.new.self.media.shelf).faults =
-            c.in_err-apply-in-Pending.ensures.carries.disk pending.0 pending.1
-            (subst (λ (z : Sizes). AreAtHand z pending.0.intents.items)
-            (sym c.accept_watched.ensures.accepts.only.keeps.size)
-            (c.in_ok-answer.ensures.rows.at_hand mid t s has records pending.0 pending.1))
-            (ap Err (fault_is c.from_residual-in_err-apply-in-Pending.result _ _
-            c.from_residual-in_err-apply-in-Pending.ensures.1 told)) in
-            omega (arith, c.accept_watched.ensures.accepts.only.keeps.count, more));
+        disk = λ clean t r has records is.
+            c.in_err-answered.ensures.runs.disk clean t r has records
+            (ap Err (fault_is c.from_residual.result _ _ c.from_residual.ensures.1 is));
       };
       closes = search rules;
     }
 
-pub returns-in_default : goal.returns-in_default
-returns-in_default g c =
+pub returns : goal.returns
+returns g c =
+    let old = c.args.self.now in
+    let new = c.hand_in_keys.new.self in
     record {
-      answers = λ h clean. (
-          let before = c.args.self.now.progress in
-          rest_handed g.S.Store g.H.Shelf c.args.self.now.media.registry
-          c.accept_watched.new.self.media.registry c.args.self.now.media.shelf
-          c.accept_watched.new.self.media.shelf
-          c.args.key.now c.args.command.now before (c.accept_watched.ensures.leaves h clean)
-          c.in_ok-answer.answer c.accept_watched.new.self.progress (never_pending before c.requires)
-          (c.in_ok-answer.ensures.answers h clean)
-          (λ e. c.in_default.not-Pending (c.phase.ensures ∙ e)));
+      answers = λ h clean away v u stands.
+          let it = c.in_ok-answered.ensures.told h clean in
+          one_handed g.S.Store g.H.Shelf new.progress old.media.registry new.media.registry
+          old.media.shelf new.media.shelf away v u c.args.key.now c.args.command.now it.0
+          c.in_ok-answered.answered.answer (it.1 away v u stands) (it.3 away v u stands).1;
       leaves = search rules;
       not_failed = search rules;
-      phase = search rules;
+      phase = c.in_ok-answered.ensures.phase;
       rows = record {
-        readable = c.in_ok-answer.ensures.rows.readable;
-        store = c.in_ok-answer.ensures.rows.store;
-        goes_on = c.in_ok-answer.ensures.rows.goes_on;
+        readable = search rules;
+        store = search rules;
+        goes_on = c.in_ok-answered.ensures.rows.goes_on;
       };
-      runs = search rules;
-      closes = search rules;
+      runs = record {
+        keep = search rules;
+        undone = c.in_ok-answered.ensures.runs.undone;
+        disk = search rules;
+      };
+      closes = record {
+        closed = λ is. absurd (c.in_ok-answered.ensures.not_failed is);
+        reopen = search rules;
+        failed = search rules;
+        absent = search rules;
+        redone = c.hand_in_keys.ensures.closes.redone;
+      };
     }

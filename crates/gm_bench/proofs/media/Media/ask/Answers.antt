@@ -1,7 +1,7 @@
 use Rattle.gm_bench.proofs.Common.{rules, Err, ap, left_by}
 use Rattle.gm_bench.proofs.CarriedOut.{left_records}
 use Rattle.gm_bench.proofs.Causes.{fault_is}
-use Rattle.gm_bench.proofs.DecidesOnly.{ok_then}
+use Rattle.gm_bench.proofs.DecidesOnly.{ok_and, ok_then}
 use Rattle.gm_bench.proofs.media.Media.ask.Goals as goal
 
 pub returns-in_err-known : goal.returns-in_err-known
@@ -25,12 +25,14 @@ returns g c =
           (decides u known.0.part known.0.mirrors known.0.facts, known.1)))
           c.decide_on.result c.decide_on.ensures.decides;
       at_hand = λ clean.
-          ok_then _ _ (λ r at_hand t s has records. (
+          ok_then _ _ (λ r both t s has records. (
           let known = c.in_ok-known.ensures.serves clean t s has records in (
             known.1,
-            λ fits. at_hand fits known.0.state known.0.few known.0.most
+            λ fits. both.0 fits known.0.state known.0.few known.0.most
                 (g.H.Shelf.size c.args.self.now.shelf) known.0.sizes,
-          ))) c.decide_on.result c.decide_on.ensures.at_hand;
+            both.1 known.0.state known.0.few known.0.most,
+          ))) c.decide_on.result
+          (ok_and _ _ c.decide_on.result c.decide_on.ensures.at_hand c.decide_on.ensures.once);
       fits = λ clean.
           ok_then _ _ (λ r fitting t s has records fits honest waiting. (
           let known = c.in_ok-known.ensures.serves clean t s has records in

@@ -1,4 +1,4 @@
-use Rattle.gm_bench.proofs.Common.{rules, ◌≡◌, ◌∙◌, ◌+◌, ◌≤◌, List, ℕ, arith, length, subst, sym, saved, Changed, with_pending, settled, HasTables, MayLeave, seen, Tables, FitsTables, less_room, most_rows, Store, Unreadable}
+use Rattle.gm_bench.proofs.Common.{◌<◌, Further, ap, count_of, rules, ◌≡◌, ◌∙◌, ◌+◌, ◌≤◌, List, ℕ, arith, length, subst, sym, saved, Changed, with_pending, settled, HasTables, MayLeave, seen, Tables, FitsTables, less_room, most_rows, Store, Unreadable}
 use Rattle.gm_bench.proofs.LossCommits.{commits, lost, same_behind, same_pending}
 use Rattle.gm_bench.proofs.Causes.{of_failed, of_unreadable}
 use Rattle.gm_bench.proofs.FittingLosses.{loss_fits_tables}
@@ -61,6 +61,8 @@ returns-in-Err g c =
           let fault : c.of_store.result ≡ Store = cc in
           let loss = c.args.loss.now in
           let few : length loss.change.components ≤ 16 = can.change.few_put in
+          let none : length loss.change.further ≡ 0 =
+          ap (λ (fs : List Further). length fs) can.once in
           let fits = subst (λ (ch : Changed). FitsTables ch c.args.key.now
           c.as_str-words.result.now (settled t)) (sym (same_pending loss.change
           c.deref.ensures.value c.deref-2.ensures.value))
@@ -68,9 +70,11 @@ returns-in-Err g c =
           loss.bytes.items) c.args.key.now l (settled t)) (sym c.as_str-words.ensures.value)
           (loss_fits_tables c.args.key.now ts t loss can low state readable)) in
           c.in-Err.ensures.accepts.store clean (of_failed c.in-Err.fault
-          (sym c.of_store.ensures.value ∙ fault)) t has can.room can.change.reply fits
-          (less_room (length loss.change.components + 2) most_rows
-          (seen g.S.Store c.args.self.now.registry) (omega (arith, few)) room);
+          (sym c.of_store.ensures.value ∙ fault)) t has
+          (subst (λ (fs : List Further). count_of t + length fs < 100000) (sym can.once)
+          (let room = can.room in omega (arith, room))) can.change.replies fits
+          (less_room (length loss.change.components + length loss.change.further + 2) most_rows
+          (seen g.S.Store c.args.self.now.registry) (omega (arith, few, none)) room);
       goes_on = search rules;
       untouched = λ is.
           let fault : c.of_store.result ≡ Unreadable = cc in

@@ -1,4 +1,4 @@
-use Rattle.gm_bench.proofs.Common.{rules, ◌≡◌, ◌∙◌, Ok, Err, ℕ, List, sym, ap, subst, subst₂, arith, string_bytes, Tables, DiskKept, HasTables, IsHonestToAdopt, CanBeAccepted, IsJudgedToFit, TellsKey}
+use Rattle.gm_bench.proofs.Common.{rules, ◌≡◌, ◌∙◌, Ok, Err, ℕ, List, sym, ap, subst, subst₂, arith, string_bytes, Tables, DiskKept, HasTables, IsHonestToAdopt, CanBeAccepted, IsJudgedOnce, IsJudgedToFit, TellsKey}
 use Rattle.gm_bench.specs.Judgements.{IsLeftToRules}
 use Rattle.gm_bench.proofs.CarriedOut.{seen_leads}
 use Rattle.gm_bench.proofs.Causes.{fault_is}
@@ -33,7 +33,7 @@ returns-in-Kept g c =
             told.1,
           );
       plans = λ clean t r has records any.
-          (tt, λ honest. tt, (c.in_ok-number.ensures.told clean t has).1);
+          (tt, tt, λ honest. tt, (c.in_ok-number.ensures.told clean t has).1);
       readable = search rules;
       looks = search rules;
     }
@@ -52,7 +52,7 @@ returns-in-Refused g c =
             told.1,
           );
       plans = λ clean t r has records any.
-          (tt, λ honest. tt, (c.in_ok-number.ensures.told clean t has).1);
+          (tt, tt, λ honest. tt, (c.in_ok-number.ensures.told clean t has).1);
       readable = search rules;
       looks = search rules;
     }
@@ -89,7 +89,7 @@ returns-in-Free g c =
           ok_then _ _ (λ jd plans t r has records any. (
           let told = c.in_ok-number.ensures.told (asked clean) t has in
           subst (λ (k : g.row.H.Denot). CanBeAccepted (g.H.Shelf.size k) key t jd
-          × (IsHonestToAdopt g.H.Shelf k command → IsJudgedToFit t jd)
+          × IsJudgedOnce jd × (IsHonestToAdopt g.H.Shelf k command → IsJudgedToFit t jd)
           × HasTables g.S.Store c.judge_by_rules.new.self.registry t) shelf
           (plans t r told.1 records (left t told.0)))) c.judge_by_rules.result
           (by_rules.plans clean);

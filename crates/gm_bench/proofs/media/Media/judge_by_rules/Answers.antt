@@ -1,4 +1,4 @@
-use Rattle.gm_bench.proofs.Common.{rules, Err, sym, ap, subst, IsLeast, seen_of, left_by, IsFitting, IsPlanned, IsDecided, IsPlanAtHand, IsPlanFitting, AreAtHand, string_bytes, words_of, ℕ, List}
+use Rattle.gm_bench.proofs.Common.{rules, ◌≡◌, [], map, arith, Further, MayBeTaken, IsPlannedOnce, Err, sym, ap, subst, IsLeast, seen_of, left_by, IsFitting, IsPlanned, IsDecided, IsPlanAtHand, IsPlanFitting, AreAtHand, string_bytes, words_of, ℕ, List}
 use Rattle.gm_bench.proofs.CallAnswers.{least}
 use Rattle.gm_bench.proofs.CarriedOut.{seen_leads}
 use Rattle.gm_bench.proofs.Causes.{fault_is}
@@ -27,13 +27,21 @@ returns-in-Ok g c key =
           let handy : AreAtHand (g.H.Shelf.size c.args.self.now.shelf)
           c.in-Ok.planned.work.intents.items =
           subst (λ p. IsPlanAtHand (g.H.Shelf.size c.args.self.now.shelf) p) c.in-Ok.is
-          (hand.1 left.fits) in (
+          (hand.1 left.fits) in
+          let once : c.in-Ok.planned.change.further ≡ [] =
+          subst IsPlannedOnce c.in-Ok.is hand.2 in (
             record {
               key_ok = left.told.0;
               free = left.told.1;
-              room = left.told.2;
+              further = subst (λ (fs : List Further). MayBeTaken key
+                  (map (λ (f : Further). string_bytes f.key) fs) t) (sym once)
+                  (record {
+                    fresh = tt;
+                    room = let room = left.told.2 in omega (arith, room);
+                  });
               at_hand = handy;
             },
+            once,
             λ honest waiting.
                 let fitting : IsFitting c.in-Ok.planned.change (words_of c.args.command.now)
                 (left_by waiting t) =
@@ -63,7 +71,7 @@ returns-in-Err g c key =
             d.1,
           );
       plans = λ clean t r has records left.
-          (tt, λ honest. tt, (c.in_ok-planned.ensures.at_hand clean t r has records).0);
+          (tt, tt, λ honest. tt, (c.in_ok-planned.ensures.at_hand clean t r has records).0);
       readable = search rules;
       looks = search rules;
     }

@@ -75,7 +75,7 @@ returns g c =
           let k = c.args.component.now in
           let fits = subst (λ (r : Result Changed Refusal). IfOk r
           (λ ch. IsFitting ch (words_of c.in_ok-command.command) (settled t)
-          × (length ch.intents ≤ 17))) c.in-Ok-Ok.field-0-is
+          × (length ch.intents ≤ 17) × (ch.further ≡ []))) c.in-Ok-Ok.field-0-is
           (c.in-Ok-Ok.ensures.fits (settled t) k.mirror k.provider
           (records_settled t c.args.state.now are) c.in-Ok.ensures.fits
           c.in_ok-command.ensures.command) in
@@ -83,7 +83,7 @@ returns g c =
           c.args.bytes.now k.mirror k.provider (string_bytes c.in-Ok.words) key c.in-Ok-Ok.change t
           j comes key_ok free room
           (subst (λ (l : List ℕ). IsFitting c.in-Ok-Ok.change l (settled t))
-          (sym c.in-Ok.ensures.words) fits.0) fits.1)) c.redirect.result c.redirect.ensures.comes;
+          (sym c.in-Ok.ensures.words) fits.0) fits.1 fits.2)) c.redirect.result c.redirect.ensures.comes;
       fault = search rules;
       not_store = search rules;
     }

@@ -35,7 +35,7 @@ returns g c =
           by) state on (subst CommandFits is fits)) c.decide.result c.decide.ensures.facts;
       fits =
           ok_then _ _ (λ r by t n p are fits is. subst (λ (x : Command). IfOk r
-          (λ ch. IsFitting ch (words_of x) t × (length ch.intents ≤ 17))) (sym is)
+          (λ ch. IsFitting ch (words_of x) t × (length ch.intents ≤ 17) × (ch.further ≡ []))) (sym is)
           (loss_fits c.args.state.now c.in_ok-facts.facts n p r t
           (subst (λ (x : Command). Decides c.args.state.now (seen_in c.in_ok-facts.facts) x r) is
           by) are (subst CommandFits is fits))) c.decide.result c.decide.ensures.facts;
