@@ -1,6 +1,6 @@
 //! The calls of a bench as tests make them, and what a last sector is expected to say.
 
-use gm_bench::{Answer, Bench, BenchFault, Kept, OpenFault, Phase, Watch};
+use gm_bench::{Answer, Bench, BenchFault, Kept, OpenFault, Phase, SeriesAnswer, Watch};
 use gm_commands::{Command, Sectors};
 use gm_looks::{Scrubbed, Unlike};
 use gm_metadata::{Balance, DiskFlags, Label, Metadata, MirrorFlags, encode};
@@ -186,6 +186,35 @@ pub fn try_accept<S: Alter, H: Shelf>(
     match bench.phase() {
         Phase::Ready | Phase::Applied | Phase::Failed => Ok(bench.accept(alloc, key, &command)),
         Phase::Pending => Err("an accepting in another phase")?,
+    }
+}
+
+/// Hands in the advances of b.img in gm0 under these keys, as one series.
+pub fn try_series<S: Alter, H: Shelf>(
+    alloc: Global,
+    bench: &mut Bench<S, H>,
+    keys: &[&str],
+) -> Result<Result<Option<SeriesAnswer>, BenchFault>, Fail> {
+    let mut texts = Vec::new(alloc);
+    for key in keys {
+        texts.push(String::from_str(alloc, key)?)?;
+    }
+    let (name, provider) = (label("gm0")?, label("b.img")?);
+    match bench.phase() {
+        Phase::Ready | Phase::Applied | Phase::Failed => {
+            Ok(bench.hand_in_series(alloc, &texts, name, provider))
+        }
+        Phase::Pending => Err("a series in another phase")?,
+    }
+}
+
+/// Settles what waits to be settled, if something does.
+pub fn try_settle_waiting<S: Alter, H: Shelf>(
+    bench: &mut Bench<S, H>,
+) -> Result<Result<(), BenchFault>, Fail> {
+    match bench.phase() {
+        Phase::Ready | Phase::Applied | Phase::Failed => Ok(bench.settle_waiting()),
+        Phase::Pending => Err("a settling in another phase")?,
     }
 }
 

@@ -12,5 +12,5 @@ pub use calls::{
     Asked, IN_SYNC, INSERT, LABEL, NO_FLAGS, SYNCHRONIZING, is_over, is_stopped, metadata, must_be,
     must_be_left, must_hold, must_keep_data, must_say, number, of_two, open, runs, try_accept,
     try_accepted, try_apply, try_audit, try_kept, try_last, try_open, try_run, try_scrub,
-    try_settle, try_unlike, try_view,
+    try_series, try_settle, try_settle_waiting, try_unlike, try_view,
 };
