@@ -1,6 +1,8 @@
-//! The tests of series: what they are answered, and what a stop within one leaves.
+//! The tests of series: what they are answered, and what a stop within one and a loss after it
+//! leave.
 
 mod answers;
+mod losses;
 mod stops;
 
 use gm_bench::{Answer, Bench};
@@ -91,7 +93,11 @@ fn kept<S: Alter, H: Shelf>(
 ) -> Option<(u64, Reply)> {
     match try_kept(bench, key) {
         Ok(Some(kept)) => {
-            must(rt, kept.words.as_str() == "advance gm0 b.img", "other words");
+            must(
+                rt,
+                kept.words.as_str() == "advance gm0 b.img",
+                "other words",
+            );
             Some((kept.number, kept.reply))
         }
         Ok(None) => None,

@@ -172,7 +172,7 @@ for seconds in 0.02 0.04 0.06 0.08 0.1; do
     [ $? != 137 ] || killed=$((killed + 1))
 done
 [ "$killed" -gt 0 ] && pass 'a sync is killed under way' || fail 'a sync is killed under way' 'each was done before'
-# That is 60 MB with some 2,000 syncs: it may take longer than other runs do.
+# That is 60 MB: it may take longer than other runs do.
 timeout 120 "$gmbench" sync --quiet --registry "$registry" --shelf "$bench/images" >"$work/output" 2>"$work/complaints"
 status=$?
 [ "$status" = 0 ] && [ "$(grep -c '^gm0 .* ACTIVE$' "$work/output")" = 16 ] &&

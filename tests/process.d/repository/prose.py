@@ -26,7 +26,7 @@ WORDS = {
     "docs/DEFINITIONS.md": 4600,
     "docs/GATE.md": 550,
     "docs/PERFORMANCE.md": 1090,
-    "docs/PROOF.md": 4500,
+    "docs/PROOF.md": 4520,
     "docs/REFERENCE.md": 10450,
     "docs/USE.md": 5400,
 }

@@ -1,4 +1,5 @@
-//! Series whose shelf or store stops at each of its calls in turn.
+//! Series whose shelf or store stops. Of the shelf each sector of a run is a call: it stops at each
+//! 61st, and at the last ones in turn; the store stops at each of its calls.
 
 use super::{COPIED, KEYS, accepted, got, held, inserted, kept, must, unlike};
 use gm_bench::{Answer, BenchFault, SeriesAnswer};
@@ -10,8 +11,14 @@ use sqlite::{Alter, Connection, Files, MemStore, Options};
 use sqlite_disk::{Crash, Fuse, Memory};
 use std::process::Abort;
 
-// A series is over long before it makes so many calls of the shelf, or of a file.
+// A series is over long before it makes so many calls of a file, or 61 times so many of the shelf.
 const MANY: u64 = 200;
+
+// How far apart the calls of the shelf are at which a series stops, but for the last ones.
+const APART: u64 = 61;
+
+// How far apart they are if the opening after it stops too.
+const FAR_APART: u64 = 241;
 
 // What a series of three comes to that isn't stopped.
 const DONE: SeriesAnswer = SeriesAnswer {
@@ -99,17 +106,104 @@ fn stop_shelf(rt: &(impl Abort + AllocGlobal), nth: u64, picks: &[u32]) -> bool 
     fault.is_some()
 }
 
-#[test]
-fn a_stop_of_the_shelf_leaves_all_of_a_series_or_none(rt: HostRuntime) {
-    let mut ended = false;
-    for nth in 1..MANY {
-        if !ended {
-            let lost = stop_shelf(&rt, nth, &[]);
-            let stays = stop_shelf(&rt, nth, &[u32::MAX; 600]);
-            ended = !lost && !stays;
+// The same of a crash that loses what isn't synced, and of one that leaves it.
+fn stop_shelf_both(rt: &(impl Abort + AllocGlobal), nth: u64) -> bool {
+    let lost = stop_shelf(rt, nth, &[]);
+    let stays = stop_shelf(rt, nth, &[u32::MAX; 600]);
+    must(rt, lost == stays, "another run");
+    lost
+}
+
+// Stops a series at each 61st call of its shelf; the first of these that it doesn't come to.
+fn stop_apart(rt: &(impl Abort + AllocGlobal)) -> u64 {
+    let mut nth = 1u64;
+    let mut stopped = true;
+    for _ in 0..MANY {
+        if stopped {
+            stopped = stop_shelf_both(rt, nth);
+        }
+        if stopped {
+            nth = nth.saturating_add(APART);
         }
     }
-    must(&rt, ended, "no run ended");
+    must(rt, !stopped, "no run ended");
+    nth
+}
+
+#[test]
+fn a_stop_of_the_shelf_leaves_all_of_a_series_or_none(rt: HostRuntime) {
+    let end = stop_apart(&rt);
+    let mut stops = 0u64;
+    for nth in end.saturating_sub(APART)..end {
+        stops = stops.saturating_add(u64::from(stop_shelf_both(&rt, nth)));
+    }
+    must(&rt, stops > 0, "a stop didn't come");
+}
+
+// An opening of what a stop left, whose shelf serves no call from this one on; whether the stop
+// came.
+fn stop_opening(
+    rt: &(impl Abort + AllocGlobal),
+    store: Connection<MemStore>,
+    shelf: MemShelf,
+    call: u64,
+) -> (bool, Connection<MemStore>, MemShelf) {
+    let shelf = FaultShelf::stop_from(shelf, call);
+    match got(rt, try_open(rt.alloc(), store, shelf)) {
+        Ok(bench) => {
+            let (store, shelf) = bench.close();
+            (false, store, shelf.into_inner())
+        }
+        Err(left) => {
+            must(rt, left.fault == BenchFault::Disk, "another fault");
+            (true, left.store, left.shelf.into_inner())
+        }
+    }
+}
+
+// A series whose shelf serves no call from the nth on, and an opening after it, whose shelf serves
+// none from another on. Each time a crash loses what isn't synced. Whether either stop came.
+fn stop_twice(rt: &(impl Abort + AllocGlobal), nth: u64, call: u64) -> (bool, bool) {
+    let (store, shelf) = inserted(rt);
+    let (fault, store, shelf) = is_stopped(rt, store, FaultShelf::stop_from(shelf, nth));
+    let left = shelf.into_inner().crash_image(&[]).expect(rt, "no memory");
+    let (stopped, store, shelf) = stop_opening(rt, store, left, call);
+    let left = shelf.crash_image(&[]).expect(rt, "no memory");
+    let count = all_or_none(rt, store, left);
+    must(
+        rt,
+        fault.is_some() || count == 3,
+        "an acknowledged series is missing",
+    );
+    (fault.is_some(), stopped)
+}
+
+// Stops an opening at each 61st of its calls, after a series that stopped at its nth; whether that
+// did.
+fn stop_openings(rt: &(impl Abort + AllocGlobal), nth: u64) -> bool {
+    let mut call = 1u64;
+    let mut came = (true, true);
+    for _ in 0..MANY {
+        if came.1 {
+            came = stop_twice(rt, nth, call);
+        }
+        call = call.saturating_add(APART);
+    }
+    must(rt, !came.1, "no opening ended");
+    came.0
+}
+
+#[test]
+fn a_stop_of_the_opening_after_it_leaves_all_of_a_series_or_none(rt: HostRuntime) {
+    let mut nth = 1u64;
+    let mut stopped = true;
+    for _ in 0..MANY {
+        if stopped {
+            stopped = stop_openings(&rt, nth);
+        }
+        nth = nth.saturating_add(FAR_APART);
+    }
+    must(&rt, !stopped, "no run ended");
 }
 
 // What a job over files leaves of both media: as they are, or as a crash leaves them, which loses
