@@ -170,7 +170,7 @@ crates=$(cut -d / -f 1 "$work/edits" | sort -u | wc -l)
 expect_at_most 'wrong bodies' "$edits" 90
 expect_at_most 'crates with wrong bodies' "$crates" 15
 tests=$(find "$top/crates" -path '*_tests/src/*.rt' -exec cat {} + | wc -l)
-expect_at_most 'lines of proved tests' "$tests" 9400
+expect_at_most 'lines of proved tests' "$tests" 9600
 for page in docs/PROOF.md docs/GATE.md CONTRIBUTING.md; do
     tr '\n' ' ' <"$top/$page" >"$work/page"
     kits=$(grep -o 'rattle-kit-[0-9a-z]*' "$work/page" | LC_ALL=C sort -u | tr '\n' ' ')
