@@ -1,51 +1,91 @@
 # Completes gmbench's words in bash. Source this file, or put it as `gmbench` into a folder of bash-completion.
 
-# The options of a subcommand, or those of the program that each command has by itself.
+# Keeps that the command has this option, or a name at this place, and what that may be, if it is one of these commands.
+# COMMAND is each that changes mirrors, and 2+ each place from the second on.
+_gmbench_takes() {
+    local taken=$1 kind=$2 it
+    shift 2
+    for it; do
+        if [[ $it = "$command" || $it = COMMAND && " ${changes[*]} " = *" $command "* ]]; then
+            [[ $taken != --* ]] || options+=("$taken")
+            kinds[${taken/#*+/more}]=$kind
+        fi
+    done
+}
+
+# docs/words begins
+# The commands that change mirrors, and all subcommands.
+_gmbench_commands() {
+    changes=(label insert remove deactivate activate forget rebuild configure clear destroy lost advance adopt patch)
+    subcommands=("${changes[@]}" dump taste pending recover status list audit scrub check log do batch replace mend \
+        write sync renew serve help)
+}
+
+# The options of a subcommand. COMMAND is each that changes mirrors.
 _gmbench_options() {
-    case $1 in
-        dump | taste) echo --shelf --json --explain --help ;;
-        pending) echo --registry --shelf --explain --wait --json --help ;;
-        recover) echo --registry --shelf --existing --explain --wait --json --unchecked --force --without --key --help ;;
-        status | list | audit) echo --registry --shelf --existing --explain --wait --json --read-only --help ;;
-        scrub) echo --registry --shelf --explain --wait --json --quiet --help ;;
-        check) echo --registry --shelf --explain --wait --data --json --quiet --help ;;
-        do) echo --registry --shelf --existing --explain --wait --json --unchecked --force --help ;;
-        batch) echo --registry --shelf --existing --explain --wait --audit --guarded --stop --help ;;
-        replace) echo --registry --shelf --explain --wait --unchecked --force --quiet --key --help ;;
-        write) echo --registry --shelf --explain --wait --unchecked --force --quiet --key --first --file --help ;;
-        sync) echo --registry --shelf --explain --wait --json --unchecked --force --quiet --help ;;
-        serve) echo --registry --shelf --existing --explain --wait --port --count --log --audit --guarded --any-origin --help ;;
-        by-itself) echo --registry --shelf --existing --explain --wait --json --unchecked --force --key --help ;;
-    esac
+    _gmbench_takes --registry file COMMAND recover status list audit do batch serve
+    _gmbench_takes --registry file pending scrub check log replace mend write sync renew
+    _gmbench_takes --shelf folder COMMAND dump taste recover status list audit scrub check do batch replace mend write \
+        sync renew serve
+    _gmbench_takes --shelf folder pending
+    _gmbench_takes --existing '' COMMAND recover status list audit do batch serve
+    _gmbench_takes --explain '' COMMAND dump taste pending recover status list audit scrub check log do batch replace \
+        mend write sync renew serve
+    _gmbench_takes --wait other COMMAND pending recover status list audit scrub check log do batch replace mend write \
+        sync renew serve
+    _gmbench_takes --json '' COMMAND dump taste pending recover status list audit scrub check log do mend sync renew
+    _gmbench_takes --unchecked '' COMMAND do replace write sync
+    _gmbench_takes --unchecked '' recover
+    _gmbench_takes --unchecked '' mend
+    _gmbench_takes --force '' COMMAND do replace mend write
+    _gmbench_takes --force '' recover sync renew
+    _gmbench_takes --key other COMMAND mend
+    _gmbench_takes --key other recover
+    _gmbench_takes --key other replace write
+    _gmbench_takes --all '' adopt
+    _gmbench_takes --without image recover
+    _gmbench_takes --read-only '' status list audit
+    _gmbench_takes --quiet '' scrub check replace mend write sync
+    _gmbench_takes --data '' check
+    _gmbench_takes --last other log
+    _gmbench_takes --audit '' batch serve
+    _gmbench_takes --guarded '' batch serve
+    _gmbench_takes --stop '' batch
+    _gmbench_takes --first other write
+    _gmbench_takes --file file write
+    _gmbench_takes --port other serve
+    _gmbench_takes --count other serve
+    _gmbench_takes --log '' serve
+    _gmbench_takes --any-origin '' serve
 }
 
-# The options of a command that changes mirrors, beside those of the program.
-_gmbench_command_options() {
-    case $1 in
-        label) echo --mid --did --balance --slice --autosync --failsync --hardcode ;;
-        insert) echo --did --priority --hardcode ;;
-        configure) echo --balance --slice --autosync --failsync --hardcode --prov --priority ;;
-        patch) echo --first --data ;;
-    esac
+# Those of a command that changes mirrors, also after `do`.
+_gmbench_words() {
+    _gmbench_takes --mid other label
+    _gmbench_takes --did other label insert
+    _gmbench_takes --balance 'load prefer round-robin split' label configure
+    _gmbench_takes --slice other label configure
+    _gmbench_takes --autosync 'on off' label configure
+    _gmbench_takes --failsync 'on off' label configure
+    _gmbench_takes --hardcode 'on off' label insert configure
+    _gmbench_takes --priority other insert configure
+    _gmbench_takes --prov image configure
+    _gmbench_takes --first other patch
+    _gmbench_takes --data other patch
 }
 
-# Whether an image may follow this command and so many names after it.
-_gmbench_wants_image() {
-    case $1 in
-        '' | forget | destroy | configure | patch) false ;;
-        clear) [[ $2 = 0 ]] ;;
-        lost | adopt) [[ $2 -gt 0 ]] ;;
-        *) [[ $2 = 1 ]] ;;
-    esac
+# The names of a command, each at its place.
+_gmbench_names() {
+    _gmbench_takes 1 '' label adopt
+    _gmbench_takes 1 mirror insert remove deactivate activate forget rebuild configure destroy lost advance patch \
+        scrub log replace write sync
+    _gmbench_takes 1 image clear dump mend
+    _gmbench_takes 2 image label insert remove deactivate activate rebuild advance sync
+    _gmbench_takes 2 image replace
+    _gmbench_takes 2+ image lost adopt
+    _gmbench_takes 3 image replace
 }
-
-# Whether the name that follows this command is that of a mirror which is registered.
-_gmbench_wants_mirror() {
-    case $1 in
-        insert | remove | deactivate | activate | forget | rebuild | configure | destroy | lost | advance | patch) true ;;
-        *) false ;;
-    esac
-}
+# docs/words ends
 
 # Offers those of these words that begin as the word at the cursor.
 _gmbench_offer() {
@@ -71,7 +111,8 @@ _gmbench_offer_mirrors() {
     [[ -n $registry && -n $shelf ]] || return
     while IFS= read -r line; do
         [[ $line == ' '* || $line == 'no mirrors' ]] || _gmbench_offer "${line%% *}"
-    done < <(command gmbench status --read-only --registry "${registry/#\~\//$HOME/}" --shelf "${shelf/#\~\//$HOME/}" 2>/dev/null)
+    done < <(command gmbench status --read-only --registry "${registry/#\~\//$HOME/}" \
+        --shelf "${shelf/#\~\//$HOME/}" 2>/dev/null)
 }
 
 # Offers files or folders of any name.
@@ -80,23 +121,26 @@ _gmbench_offer_paths() {
     compopt -o filenames 2>/dev/null
 }
 
-# Offers what may follow this command and so many names after it.
-_gmbench_offer_names() {
-    if [[ $2 = 0 ]] && _gmbench_wants_mirror "$1"; then
-        _gmbench_offer_mirrors
-    elif _gmbench_wants_image "$1" "$2"; then
-        _gmbench_offer_images
-    fi
+# Offers what a value or a name may be.
+_gmbench_offer_kind() {
+    case $1 in
+        file) _gmbench_offer_paths -f ;;
+        folder) _gmbench_offer_paths -d ;;
+        image) _gmbench_offer_images ;;
+        mirror) _gmbench_offer_mirrors ;;
+        other) ;;
+        *) _gmbench_offer $1 ;;
+    esac
 }
 
 _gmbench() {
-    local commands='label insert remove deactivate activate forget rebuild configure clear destroy lost advance adopt patch'
-    local subcommands="$commands dump taste pending recover status list audit scrub check do batch replace write sync serve help"
-    local command='' named=0
-    local word=${COMP_WORDS[COMP_CWORD]} registry=${GMBENCH_REGISTRY-} shelf=${GMBENCH_SHELF-} option='' names=() before
+    local word=${COMP_WORDS[COMP_CWORD]} registry=${GMBENCH_REGISTRY-} shelf=${GMBENCH_SHELF-} before option='' place
+    local changes=() subcommands=() command='' handed='' names=() options=(--help --version)
+    local -A kinds=()
     COMPREPLY=()
+    _gmbench_commands
 
-    # What stands before the cursor: names, the subcommand first, and maybe an option that wants a value.
+    # What is before the cursor: names, the subcommand first, and maybe an option that wants a value.
     for before in "${COMP_WORDS[@]:1:COMP_CWORD-1}"; do
         if [[ -n $option ]]; then
             [[ $before != = ]] || continue
@@ -106,53 +150,34 @@ _gmbench() {
                 --shelf) shelf=$(xargs printf %s <<<"$before" 2>/dev/null) ;;
             esac
             option=
-            continue
+        elif [[ $before = -* ]]; then
+            [[ -z ${kinds[$before]-} ]] || option=$before
+        else
+            names+=("$before")
+            case ${names[0]},${#names[@]} in
+                *,1) command=$before options=(--help) && _gmbench_options && _gmbench_words && _gmbench_names ;;
+                do,2) options=() ;;
+                # After the key of `do` comes a command, which has its own words alone.
+                do,3) command=$before kinds=() handed=yes && _gmbench_words && _gmbench_names ;;
+            esac
         fi
-        case $before in
-            --registry | --shelf | --wait | --without | --key | --port | --count | --mid | --did | --balance | --slice | \
-                --autosync | --failsync | --hardcode | --priority | --prov | --first | --file) option=$before ;;
-            # Of `check` it has no value.
-            --data) [[ ${names[0]-} = check ]] || option=$before ;;
-            -*) ;;
-            *) names+=("$before") ;;
-        esac
     done
-    [[ -z $option || $word != = ]] || word=
-
-    # The command that changes mirrors, by itself or after the key of `do`, and how many names are after it.
-    if [[ ${names[0]-} = do ]]; then
-        command=${names[2]-} named=$((${#names[@]} - 3))
-    elif [[ " $commands " = *" ${names[0]-} "* ]]; then
-        command=${names[0]} named=$((${#names[@]} - 1))
+    if [[ -n $option ]]; then
+        [[ $word != = ]] || word=
+        _gmbench_offer_kind "${kinds[$option]}"
+        return
     fi
 
-    case $option in
-        --registry | --file) _gmbench_offer_paths -f ;;
-        --shelf) _gmbench_offer_paths -d ;;
-        --without | --prov) _gmbench_offer_images ;;
-        --balance) _gmbench_offer load prefer round-robin split ;;
-        --autosync | --failsync | --hardcode) _gmbench_offer on off ;;
-    esac
-    [[ -z $option ]] || return
-
+    # The place of the next name after the command.
+    place=$((${#names[@]} - (${#handed} ? 2 : 0)))
     if [[ $word != -* ]]; then
-        case ${names[0]-},${#names[@]} in
-            ,0 | help,1) _gmbench_offer $subcommands ;;
-            do,2) _gmbench_offer $commands ;;
-            scrub,1 | sync,1 | replace,1 | write,1) _gmbench_offer_mirrors ;;
-            dump,1 | sync,2 | replace,[23]) _gmbench_offer_images ;;
-            *) _gmbench_offer_names "$command" "$named" ;;
+        case $command,$place in
+            ,0 | help,1) _gmbench_offer "${subcommands[@]}" ;;
+            do,2) _gmbench_offer "${changes[@]}" ;;
+            *) _gmbench_offer_kind "${kinds[$place]-${kinds[more]-}}" ;;
         esac
-        [[ ${#COMPREPLY[@]} = 0 ]] || return
     fi
-    case ${names[0]-},${#names[@]} in
-        ,0) _gmbench_offer --help --version ;;
-        do,2) ;;
-        do,[3-9] | do,??*) _gmbench_offer $(_gmbench_command_options "$command") ;;
-        adopt,*) _gmbench_offer --all $(_gmbench_options by-itself) ;;
-        "$command",*) _gmbench_offer $(_gmbench_options by-itself) $(_gmbench_command_options "$command") ;;
-        *) _gmbench_offer $(_gmbench_options "${names[0]}") ;;
-    esac
+    [[ ${#COMPREPLY[@]} -gt 0 ]] || _gmbench_offer "${options[@]}"
 }
 
 complete -F _gmbench gmbench

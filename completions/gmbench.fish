@@ -2,30 +2,30 @@
 
 # The words before the cursor that are names, the subcommand first.
 function __gmbench_names
-    set -l valued --registry --shelf --wait --without --key --port --count --mid --did --balance --slice --autosync --failsync \
-        --hardcode --priority --prov --first --file
-    set -l subcommand
+    set -l names
     set -l wants no
     for word in (commandline -opc)[2..-1]
         if test $wants = yes
             set wants no
-        else if contains -- $word $valued
-            set wants yes
-        else if test "$word" = --data
-            # Of `check` it has no value.
-            test "$subcommand" = check; or set wants yes
-        else if not string match -q -- '-*' $word
-            test -n "$subcommand"; or set subcommand $word
-            echo $word
+        else if string match -q -- '-*' $word
+            set -l command $names[1]
+            # After the key of `do` comes a command.
+            test (count $names) -lt 3 -o "$command" != do; or set command $names[3]
+            contains -- "$command $word" $__gmbench_valued; and set wants yes
+        else
+            set -a names $word
         end
     end
+    string join -- \n $names
 end
 
-# Whether the options of one of these subcommands may stand here. After the key of `do` its own may not.
+# Whether the options of one of these subcommands may be here. COMMAND is each that changes mirrors. After a key of `do`
+# its own may not.
 function __gmbench_in
     set -l names (__gmbench_names)
     test "$names[1]" = do -a (count $names) -gt 1; and return 1
-    contains -- "$names[1]" $argv
+    contains -- "$names[1]" $argv; and return
+    contains COMMAND $argv; and contains -- "$names[1]" $__gmbench_changes
 end
 
 # Whether so many names follow that subcommand.
@@ -47,25 +47,13 @@ function __gmbench_doing
     contains -- "$names[1]" $argv
 end
 
-# Whether a mirror may be named here, after a command.
-function __gmbench_doing_mirrors
-    test (count (__gmbench_command)) -eq 1; or return
-    __gmbench_doing insert remove deactivate activate forget rebuild configure destroy lost advance patch
-end
-
-# Whether an image may stand here, after a command.
-function __gmbench_doing_images
+# Whether the next name is at this place after one of these commands, or with 2+ from the second on.
+function __gmbench_at
     set -l names (__gmbench_command)
-    switch "$names[1]"
-        case clear
-            test (count $names) -eq 1
-        case lost adopt
-            test (count $names) -gt 1
-        case label insert remove deactivate activate rebuild advance
-            test (count $names) -eq 2
-        case '*'
-            false
-    end
+    set -l place (string replace + '' $argv[1])
+    contains -- "$names[1]" $argv[2..-1]; or return
+    test (count $names) -eq $place; and return
+    test $place != $argv[1] -a (count $names) -gt $place
 end
 
 # The path that an option before the cursor has, or else this one.
@@ -103,112 +91,153 @@ function __gmbench_images
     end
 end
 
+# Offers a subcommand, and after the key of `do` one that changes mirrors.
+function __gmbench_offer
+    complete -c gmbench -n 'test (count (__gmbench_names)) -eq 0' -a $argv[1] -d $argv[2]
+    complete -c gmbench -n '__gmbench_behind help 0' -a $argv[1] -d $argv[2]
+    not contains $argv[1] $__gmbench_changes; or complete -c gmbench -n '__gmbench_behind do 1' -a $argv[1] -d $argv[2]
+end
+
+# Offers an option, of which `complete` wants to know this, if the condition after `--` holds.
+function __gmbench_option
+    set -l at (contains -i -- -- $argv)
+    set -l condition $argv[(math $at + 1)..-1]
+    complete -c gmbench $argv[1..(math $at - 1)] -n "$condition"
+    string match -qr -- '^-[rx]' $argv[3]; or return
+    set -l commands (string replace COMMAND "$__gmbench_changes" $condition[2..-1] | string split ' ')
+    set -ga __gmbench_valued $commands" --$argv[2]"
+end
+
+# Offers a name at this place after these commands.
+function __gmbench_name
+    complete -c gmbench -n "__gmbench_at $argv[1] $argv[3..-1]" -a "(__gmbench_$argv[2]s)" -d $argv[2]
+end
+
 complete -c gmbench -f
-complete -c gmbench -n 'test (count (__gmbench_names)) -eq 0' -s V -l version -d 'Print the version'
+complete -c gmbench -n 'test (count (__gmbench_names)) -eq 0' -s V -l version -d 'Print version'
 complete -c gmbench -n 'test (count (__gmbench_names)) -eq 0' -s h -l help -d 'Print help'
+complete -c gmbench -n '__gmbench_in COMMAND $__gmbench_others' -s h -l help -d 'Print help'
+set -g __gmbench_valued
 
-# The commands that change mirrors, by themselves and after the key of `do`.
-set -l changes
-set -l line
-for line in 'label:Make a mirror of an image' \
-    'insert:Add an image to a mirror' \
-    'remove:Take a component out of its mirror' \
-    'deactivate:Take a component out of use' \
-    'activate:Take a component back into use' \
-    'forget:Wait no longer for lost components' \
-    'rebuild:Have a component filled anew' \
-    'configure:Set a mirror otherwise' \
-    'clear:Wipe the metadata of an image' \
-    'destroy:Drop a mirror' \
-    'lost:Give up components whose images are gone' \
-    'advance:Copy the next sectors to a component' \
-    'adopt:Register a mirror that is found on images' \
-    'patch:Change sectors of the data'
-    set -l words (string split -m 1 : $line)
-    set -a changes $words[1]
-    complete -c gmbench -n 'test (count (__gmbench_names)) -eq 0' -a $words[1] -d $words[2]
-    complete -c gmbench -n '__gmbench_behind help 0' -a $words[1] -d $words[2]
-    complete -c gmbench -n '__gmbench_behind do 1' -a $words[1] -d $words[2]
-end
+# docs/words begins
+set -g __gmbench_changes label insert remove deactivate activate forget rebuild configure clear destroy lost advance \
+    adopt patch
+set -g __gmbench_others dump taste pending recover status list audit scrub check log do batch replace mend write sync \
+    renew serve
 
-# The other subcommands.
-for line in 'dump:Print what the last sector of an image says' \
-    'taste:Print which mirrors the images tell of' \
-    'pending:Print what a run that stopped left pending' \
-    'recover:Carry out what a run that stopped left pending' \
-    'status:Show in a few lines how the mirrors stand' \
-    'list:Show all that is known of the mirrors' \
-    'audit:List components that are not as they are registered' \
-    'scrub:Compare the data of components' \
-    'check:Say whether all is well' \
-    'do:Carry out one command' \
-    'batch:Carry out the commands of standard input' \
-    'replace:Put an image in the place of another' \
-    'write:Write the data of a file into a mirror' \
-    'sync:Fill the components that are SYNCHRONIZING' \
-    'serve:Answer requests over HTTP' \
-    'help:Print help'
-    set -l words (string split -m 1 : $line)
-    complete -c gmbench -n 'test (count (__gmbench_names)) -eq 0' -a $words[1] -d $words[2]
-    complete -c gmbench -n '__gmbench_behind help 0' -a $words[1] -d $words[2]
-end
+# The subcommands.
+__gmbench_offer label 'Makes a mirror of an image'
+__gmbench_offer insert 'Adds an image to a mirror, to be filled'
+__gmbench_offer remove 'Takes a component out of a mirror'
+__gmbench_offer deactivate 'Takes a component out of use'
+__gmbench_offer activate 'Takes an INACTIVE component back into use, to be filled'
+__gmbench_offer forget 'Stops counting components that were lost'
+__gmbench_offer rebuild 'Has a component filled anew'
+__gmbench_offer configure 'Changes settings of a mirror, or the priority of a component'
+__gmbench_offer clear 'Wipes the metadata of an image that no registered mirror has'
+__gmbench_offer destroy 'Drops a mirror'
+__gmbench_offer lost "Drops components whose images won't come back"
+__gmbench_offer advance 'Fills the next 256 sectors of a component'
+__gmbench_offer adopt 'Registers a mirror that is found on images'
+__gmbench_offer patch "Changes sectors of a mirror's data"
+__gmbench_offer dump 'Prints what the last sector of an image says'
+__gmbench_offer taste 'Prints which mirrors the images of a folder tell of by themselves'
+__gmbench_offer pending 'Prints what a run that stopped left pending, and carries out nothing'
+__gmbench_offer recover 'Carries out what a run that stopped left pending'
+__gmbench_offer status 'Shows in a few lines how the mirrors stand'
+__gmbench_offer list 'Shows all that is known of the mirrors and their components'
+__gmbench_offer audit "Lists the components whose images aren't as they are registered"
+__gmbench_offer scrub 'Compares the data of the components that are ACTIVE'
+__gmbench_offer check 'Says whether all is well, and writes nothing'
+__gmbench_offer log 'Prints which commands were accepted, and writes nothing'
+__gmbench_offer do 'Carries out one command under a key'
+__gmbench_offer batch 'Carries out the commands of standard input, a line each'
+__gmbench_offer replace 'Puts an image in the place of another'
+__gmbench_offer mend 'Writes the last sector of an image again as it is registered'
+__gmbench_offer write 'Writes the data of a file into a mirror'
+__gmbench_offer sync 'Fills the components that are SYNCHRONIZING'
+__gmbench_offer renew 'Puts a new registry in the place of one that is nearly full'
+__gmbench_offer serve 'Answers requests over HTTP, on 127.0.0.1 alone'
+__gmbench_offer help 'Prints help'
 
-# The options of subcommands.
-set -l at_bench pending recover status list audit scrub check do batch replace write sync serve $changes
-complete -c gmbench -n "__gmbench_in dump taste $at_bench" -s h -l help -d 'Print help'
-complete -c gmbench -n "__gmbench_in $at_bench" -l registry -r -F -d 'The registry'
-complete -c gmbench -n "__gmbench_in dump taste $at_bench" -l shelf -x -a '(__fish_complete_directories)' \
-    -d 'The folder with the images'
-complete -c gmbench -n "__gmbench_in dump taste pending recover status list audit scrub check do sync $changes" -l json -d 'Print JSON'
-complete -c gmbench -n '__gmbench_in status list audit' -l read-only -d 'Carry out nothing, and write nothing'
-complete -c gmbench -n '__gmbench_in scrub check replace write sync' -l quiet -d 'Do not say how far it is'
-complete -c gmbench -n '__gmbench_in check' -l data -d 'Compare the data too'
-complete -c gmbench -n '__gmbench_in batch serve' -l audit -d 'Look at the images before each command'
-complete -c gmbench -n '__gmbench_in batch serve' -l guarded -d 'Carry out no command that do would ask about or hold back'
-complete -c gmbench -n '__gmbench_in batch' -l stop -d 'End at the first line that is refused'
-complete -c gmbench -n "__gmbench_in recover status list audit do batch serve $changes" -l existing -d 'Make no registry'
-complete -c gmbench -n "__gmbench_in dump taste $at_bench" -l explain -d 'Say what a refusal or a fault means'
-complete -c gmbench -n "__gmbench_in $at_bench" -l wait -x -d 'For how many seconds what is in use is tried again'
-complete -c gmbench -n "__gmbench_in do replace write sync $changes" -l unchecked -d 'Do not look at the images first'
-complete -c gmbench -n '__gmbench_in recover' -l unchecked -d 'Do not look at what lies under the names of pending images'
-complete -c gmbench -n "__gmbench_in do replace write $changes" -l force -d 'Carry it out even if data are lost or an image is in use'
-complete -c gmbench -n '__gmbench_in recover sync' -l force -d 'Write to images even if something else uses them'
-complete -c gmbench -n '__gmbench_in adopt' -l all -d 'Adopt each mirror that is whole'
-complete -c gmbench -n "__gmbench_in $changes" -l key -x -d 'The key under which it is carried out, once'
-complete -c gmbench -n '__gmbench_in replace write' -l key -x -d 'The key of its first command'
-complete -c gmbench -n '__gmbench_in write' -l first -x -d 'The first sector that is written'
-complete -c gmbench -n '__gmbench_in write' -l file -r -F -d 'The file with the data'
-complete -c gmbench -n '__gmbench_in recover' -l without -x -a '(__gmbench_images)' -d 'An image that is gone for good'
-complete -c gmbench -n '__gmbench_in recover' -l key -x -d 'The key under which it is given up'
-complete -c gmbench -n '__gmbench_in serve' -l port -x -d 'The port on 127.0.0.1'
-complete -c gmbench -n '__gmbench_in serve' -l count -x -d 'How many connections are served'
-complete -c gmbench -n '__gmbench_in serve' -l log -d 'Log each connection'
-complete -c gmbench -n '__gmbench_in serve' -l any-origin -d 'Answer web pages too'
+# The options of a subcommand. COMMAND is each that changes mirrors.
+__gmbench_option -l registry -r -F -d 'The registry, which is made if there is none' -- __gmbench_in COMMAND recover \
+    status list audit do batch serve
+__gmbench_option -l registry -r -F -d 'The registry' -- __gmbench_in pending scrub check log replace mend write sync \
+    renew
+__gmbench_option -l shelf -x -a '(__fish_complete_directories)' -d 'The folder with the images' -- __gmbench_in \
+    COMMAND dump taste recover status list audit scrub check do batch replace mend write sync renew serve
+__gmbench_option -l shelf -x -a '(__fish_complete_directories)' \
+    -d 'The folder with the images, to say how they stand to what is pending' -- __gmbench_in pending
+__gmbench_option -l existing -d "Makes no registry: one that isn't there is a fault" -- __gmbench_in COMMAND recover \
+    status list audit do batch serve
+__gmbench_option -l explain -d 'Says on standard error what a refusal or a fault means' -- __gmbench_in COMMAND dump \
+    taste pending recover status list audit scrub check log do batch replace mend write sync renew serve
+__gmbench_option -l wait -x -d 'How long a folder or a registry in use is tried again' -- __gmbench_in COMMAND pending \
+    recover status list audit scrub check log do batch replace mend write sync renew serve
+__gmbench_option -l json -d 'Prints JSON' -- __gmbench_in COMMAND dump taste pending recover status list audit scrub \
+    check log do mend sync renew
+__gmbench_option -l unchecked -d "Doesn't look first whether the images are as they are registered" -- __gmbench_in \
+    COMMAND do replace write sync
+__gmbench_option -l unchecked -d "Doesn't look first at what lies under the names of pending images" -- __gmbench_in \
+    recover
+__gmbench_option -l unchecked -d "Doesn't look first whether the other images are as they are registered" -- \
+    __gmbench_in mend
+__gmbench_option -l force -d 'Carries it out even if data are lost then, or something else uses an image' -- \
+    __gmbench_in COMMAND do replace mend write
+__gmbench_option -l force -d 'Writes to images even if something else uses them' -- __gmbench_in recover sync renew
+__gmbench_option -l key -x -d "The key under which it is carried out, once, in place of one of gmbench's own" -- \
+    __gmbench_in COMMAND mend
+__gmbench_option -l key -x -d 'The key under which it is given up, once' -- __gmbench_in recover
+__gmbench_option -l key -x -d "The key of its first command, in place of one of gmbench's own" -- __gmbench_in replace \
+    write
+__gmbench_option -l all -d 'Adopts each mirror that the images of the folder show whole' -- __gmbench_in adopt
+__gmbench_option -l without -x -a '(__gmbench_images)' -d 'An image that is gone for good, which is given up' -- \
+    __gmbench_in recover
+__gmbench_option -l read-only -d 'Carries out nothing that is pending, and writes nothing at all' -- __gmbench_in \
+    status list audit
+__gmbench_option -l quiet -d "Doesn't say how far it is" -- __gmbench_in scrub check replace mend write sync
+__gmbench_option -l data -d 'Compares the data of the components that are ACTIVE too' -- __gmbench_in check
+__gmbench_option -l last -x -d 'Only so many of them, the last' -- __gmbench_in log
+__gmbench_option -l audit -d "Carries out no command if an image of its mirror isn't as it is registered" -- \
+    __gmbench_in batch serve
+__gmbench_option -l guarded -d 'Carries out no command that `do` would ask about or hold back' -- __gmbench_in batch \
+    serve
+__gmbench_option -l stop -d 'Ends at the first line that is refused' -- __gmbench_in batch
+__gmbench_option -l first -x -d 'The first sector, counted from 0' -- __gmbench_in write
+__gmbench_option -l file -r -F -d 'The file with the data, or - for standard input' -- __gmbench_in write
+__gmbench_option -l port -x -d 'The port on 127.0.0.1; 0 stands for one that is free' -- __gmbench_in serve
+__gmbench_option -l count -x -d 'How many connections are served' -- __gmbench_in serve
+__gmbench_option -l log -d 'Logs a line for each connection, on standard error' -- __gmbench_in serve
+__gmbench_option -l any-origin -d 'Answers web pages too, which are turned away without it' -- __gmbench_in serve
 
-# Mirrors, if a subcommand wants one.
-complete -c gmbench -n '__gmbench_behind scrub 0' -a '(__gmbench_mirrors)' -d Mirror
-complete -c gmbench -n '__gmbench_behind sync 0' -a '(__gmbench_mirrors)' -d Mirror
-complete -c gmbench -n '__gmbench_behind replace 0' -a '(__gmbench_mirrors)' -d Mirror
-complete -c gmbench -n '__gmbench_behind write 0' -a '(__gmbench_mirrors)' -d Mirror
-complete -c gmbench -n __gmbench_doing_mirrors -a '(__gmbench_mirrors)' -d Mirror
+# Those of a command that changes mirrors, also after `do`.
+__gmbench_option -l mid -x -d "The mirror's number; if it is left out, one is drawn at random" -- __gmbench_doing \
+    label
+__gmbench_option -l did -x -d "The component's number; if it is left out, one is drawn at random" -- __gmbench_doing \
+    label insert
+__gmbench_option -l balance -x -a 'load prefer round-robin split' \
+    -d 'How reads are shared out: load, prefer, round-robin or split' -- __gmbench_doing label configure
+__gmbench_option -l slice -x -d 'The bytes by which split shares out' -- __gmbench_doing label configure
+__gmbench_option -l autosync -x -a 'on off' -d 'on or off: whether components are filled that fell behind' -- \
+    __gmbench_doing label configure
+__gmbench_option -l failsync -x -a 'on off' -d 'on or off: off sets the flag NOFAILSYNC' -- __gmbench_doing label \
+    configure
+__gmbench_option -l hardcode -x -a 'on off' -d "on or off: whether an image's name is in its metadata" -- \
+    __gmbench_doing label insert configure
+__gmbench_option -l priority -x -d "The component's priority as a source, 0 to 255" -- __gmbench_doing insert \
+    configure
+__gmbench_option -l prov -x -a '(__gmbench_images)' -d 'The image of the component that gets the priority' -- \
+    __gmbench_doing configure
+__gmbench_option -l first -x -d 'The first sector, counted from 0' -- __gmbench_doing patch
+__gmbench_option -l data -x -d '1 to 64 sectors, each as 1,024 digits of 0-9 and a-f' -- __gmbench_doing patch
 
-# Images, if a subcommand wants one.
-complete -c gmbench -n '__gmbench_behind dump 0' -a '(__gmbench_images)' -d Image
-complete -c gmbench -n '__gmbench_behind sync 1' -a '(__gmbench_images)' -d Image
-complete -c gmbench -n '__gmbench_behind replace 1' -a '(__gmbench_images)' -d Image
-complete -c gmbench -n '__gmbench_behind replace 2' -a '(__gmbench_images)' -d Image
-complete -c gmbench -n __gmbench_doing_images -a '(__gmbench_images)' -d Image
-
-# The options of each command.
-complete -c gmbench -n '__gmbench_doing label' -l mid -x -d 'The number of the mirror'
-complete -c gmbench -n '__gmbench_doing label insert' -l did -x -d 'The number of the component'
-complete -c gmbench -n '__gmbench_doing label configure' -l balance -x -a 'load prefer round-robin split' \
-    -d 'How reads are shared out'
-complete -c gmbench -n '__gmbench_doing label configure' -l slice -x -d 'The bytes by which split shares out'
-complete -c gmbench -n '__gmbench_doing label configure' -l autosync -x -a 'on off' -d 'Whether NOAUTOSYNC is off'
-complete -c gmbench -n '__gmbench_doing label configure' -l failsync -x -a 'on off' -d 'Whether NOFAILSYNC is off'
-complete -c gmbench -n '__gmbench_doing label insert configure' -l hardcode -x -a 'on off' -d 'Whether the name is written'
-complete -c gmbench -n '__gmbench_doing insert configure' -l priority -x -d 'The priority of the component'
-complete -c gmbench -n '__gmbench_doing configure' -l prov -x -a '(__gmbench_images)' -d 'The component of the priority'
-complete -c gmbench -n '__gmbench_doing patch' -l first -x -d 'The first sector that is changed'
-complete -c gmbench -n '__gmbench_doing patch' -l data -x -d 'The sectors as hexadecimal digits'
+# The names of a command, each at its place.
+__gmbench_name 1 mirror insert remove deactivate activate forget rebuild configure destroy lost advance patch scrub \
+    log replace write sync
+__gmbench_name 1 image clear dump mend
+__gmbench_name 2 image label insert remove deactivate activate rebuild advance sync
+__gmbench_name 2 image replace
+__gmbench_name 2+ image lost adopt
+__gmbench_name 3 image replace
+# docs/words ends

@@ -46,6 +46,37 @@ impl Known<'_> {
         Ok(Some(text))
     }
 
+    // What has the name of the first of these images that isn't there, if anything has it.
+    fn other_entry(self, named: &[Label]) -> Result<Option<String>, AllocError> {
+        let alloc = self.folder.alloc();
+        let Some(image) = self.folder.first_absent(named) else {
+            return Ok(None);
+        };
+        let Some(reason) = self.folder.no_image(image) else {
+            return Ok(None);
+        };
+        let text = format!(in alloc; "{image} in the folder is no image: {reason}")?;
+        Ok(Some(text))
+    }
+
+    // That an image carries metadata of a mirror which is registered, so that nothing adopts it.
+    fn of_registered(self, image: Label) -> Result<Option<String>, AllocError> {
+        let alloc = self.folder.alloc();
+        let Some(metadata) = self.folder.metadata(image) else {
+            return Ok(None);
+        };
+        match self.state.mirror(metadata.name) {
+            Some(mirror) if mirror.mid == metadata.mid => {
+                let name = mirror.name;
+                let text = format!(in alloc;
+                    "{image} carries metadata of {name}: see dump; if nobody needs it, clear it"
+                )?;
+                Ok(Some(text))
+            }
+            _ => Ok(None),
+        }
+    }
+
     fn too_small(self, about: &About, image: Label) -> Result<Option<String>, AllocError> {
         let alloc = self.folder.alloc();
         let mirror = about.mirror.and_then(|mirror| self.state.mirror(mirror));
@@ -97,6 +128,8 @@ impl Known<'_> {
             (Refusal::Absent, _, named) if self.folder.first_absent(named).is_none() => {
                 self.absent(&about)
             }
+            (Refusal::Absent, _, named) => self.other_entry(named),
+            (Refusal::CarriesMetadata, _, [image]) => self.of_registered(*image),
             (Refusal::TooSmall, _, [image]) => self.too_small(&about, *image),
             (Refusal::BeingFilled, Some(mirror), _) => self.unfilled(mirror),
             _ => Ok(None),

@@ -9,10 +9,12 @@ fn way_on(standing: Standing) -> &'static str {
         Standing::AsRegistered => "is as it is registered",
         Standing::Absent => "isn't in the folder: bring it back, or give it up by lost",
         Standing::AnotherSize => {
-            "hasn't the size that is registered: bring the right one back, or give it up by lost"
+            "hasn't the size that is registered: bring the right one back, replace it, or give it \
+up by lost"
         }
         Standing::Zero | Standing::NoMetadata | Standing::Damaged => {
-            "is another file or was overwritten: bring the right one back, or give it up by lost"
+            "is another file or was overwritten: bring the right one back, mend it, replace it, or \
+give it up by lost"
         }
         Standing::AnotherMirror | Standing::AnotherComponent => {
             "is another image, by what it says: were names exchanged? See dump and taste"

@@ -10,13 +10,15 @@ abbrev pub registers : List (Bor (List ℕ)) → Bool
 registers [] = false
 registers (word ∷ _) = bytes_eq word.now (codes "label") || bytes_eq word.now (codes "adopt")
 
--- all but what fills, compares or replaces components or writes data, and a command at mirrors
--- that are registered already
+-- all but what fills, compares, replaces or mends components or writes data, what renews a
+-- registry, and a command at mirrors that are registered already
 abbrev pub makes_registry : Work → Bool
 makes_registry (work.Sync filling) = false
 makes_registry (work.Scrub comparing) = false
 makes_registry (work.Replace replacing) = false
+makes_registry (work.Mend mending) = false
 makes_registry (work.Write writing) = false
+makes_registry (work.Renew renewing) = false
 makes_registry (work.Do key words checks form) = registers words.now
 makes_registry (work.Command single) = registers single.words.now
 makes_registry (work.AdoptAll checks) = true

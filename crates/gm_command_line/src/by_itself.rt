@@ -183,7 +183,7 @@ Example:
     },
     ByItself {
         name: "forget",
-        about: "Waits no longer for components that were lost",
+        about: "Stops counting components that were lost",
         more: "The mirror counts those that are left. It writes the last sector of each of them.
 
 Example:

@@ -11,7 +11,7 @@ Make and change mirrors:
   remove      Takes a component out of a mirror
   deactivate  Takes a component out of use
   activate    Takes an INACTIVE component back into use, to be filled
-  forget      Waits no longer for components that were lost
+  forget      Stops counting components that were lost
   rebuild     Has a component filled anew
   configure   Changes settings of a mirror, or the priority of a component
   clear       Wipes the metadata of an image that no registered mirror has
@@ -23,6 +23,7 @@ Make and change mirrors:
   do          Carries out one command under a key
   batch       Carries out the commands of standard input, a line each
   replace     Puts an image in the place of another
+  mend        Writes the last sector of an image again as it is registered
   write       Writes the data of a file into a mirror
 
 Fill and check:
@@ -30,10 +31,12 @@ Fill and check:
   scrub       Compares the data of the components that are ACTIVE
   audit       Lists the components whose images aren't as they are registered
   check       Says whether all is well, and writes nothing
+  renew       Puts a new registry in the place of one that is nearly full
 
 Look:
   status      Shows in a few lines how the mirrors stand
   list        Shows all that is known of the mirrors and their components
+  log         Prints which commands were accepted, and writes nothing
   dump        Prints what the last sector of an image says
   taste       Prints which mirrors the images of a folder tell of by themselves
 
@@ -51,13 +54,13 @@ Options:
 gmbench help COMMAND, or gmbench COMMAND --help, says more of each.
 
 All but dump and taste take --registry FILE --shelf DIR: the registry, and the folder with the
-images. If there is no registry, recover, status, list, audit, batch, serve, label, adopt, and do
-with one of these two make one, and say so; with --existing they don't. Each first carries out what
-a run that stopped left pending; recover can go on without an image that is gone for good. dump and
-taste look at images alone, and write nothing. Nor do pending and check, nor status, list and audit
-with --read-only: they show the registry as it is. If --registry or --shelf is left out,
-GMBENCH_REGISTRY or GMBENCH_SHELF of the environment is taken. GMBENCH_EXISTING=1 and
-GMBENCH_EXPLAIN=1 are --existing and --explain.
+images. log takes the registry alone. If there is no registry, recover, status, list, audit, batch,
+serve, label, adopt, and do with one of these two make one, and say so; with --existing they don't.
+Each first carries out what a run that stopped left pending; recover can go on without an image that
+is gone for good. dump and taste look at images alone, and write nothing. Nor do pending, check and
+log, nor status, list and audit with --read-only: they show the registry as it is. If --registry or
+--shelf is left out, GMBENCH_REGISTRY or GMBENCH_SHELF of the environment is taken.
+GMBENCH_EXISTING=1 and GMBENCH_EXPLAIN=1 are --existing and --explain.
 
 A command is carried out once under its key. label, insert and the others take one of gmbench's own,
 and tell it in their answer. A script names one by --key: whoever runs it again after a stop gets
@@ -69,7 +72,7 @@ means.
 Exit statuses:
   0  done
   1  refused, or damage was found; the printed line says which
-  2  the words are wrong; nothing was opened
+  2  a word isn't known or is missing; nothing was opened
   3  a fault; one line on standard error says which
 
 Example:
@@ -187,25 +190,69 @@ With --json that is one line, with these as `components` and the named images as
 pub(crate) const COMPARING: &str =
     "Without NAME it goes through all mirrors. It compares the data of each ACTIVE component with
 those of the mirror's source, the ACTIVE component with the greatest priority and then the least
-name. It prints a line for each that differs, and one for each that can't be compared:
-  PROV differs in N sectors, first K
+name. It prints a line for each that differs, one for those that differ and are equal to each other,
+and one for each that can't be compared:
+  PROV differs from the source PROV in N sectors, first K
+  PROV and PROV are equal and differ from the source PROV in N sectors, first K
   PROV isn't compared
-It writes nothing, and doesn't say which is right.";
+It writes nothing, and doesn't say which is right: it may be the source that is wrong.";
 
 /// What the help of `check` says below its options.
 pub(crate) const CHECKING: &str =
     "It prints how the mirrors stand, as `status` does, and below that a line for each thing that is
 amiss, with the registry's use and a verdict at the end:
   PROV HOW                how an image stands that isn't as it is registered
-  PROV differs in N sectors, first K
-  PROV isn't compared     with --data, as `scrub` prints them
+  PROV claims to be a component of NAME
+                          it carries the mirror's metadata, and isn't registered: a copy, perhaps
+  PROV was given up as lost by NAME
+                          the same with an older genid: it does no harm
+  PROV differs from the source PROV in N sectors, first K
+  PROV isn't compared     with --data, all lines as `scrub` prints them
   N writes are pending    a run that stopped left them; the next command carries them out
+  commands N of 100000: renew the registry soon, by gmbench renew
+                          from 80,000 commands on; from 95,000 on `now`, and not all is well
   commands N of 100000, mirrors N of 64, registry N bytes
-  all is well             or `not all is well`: something is amiss, or a mirror isn't COMPLETE
-The status is 0 if all is well, and else 1.
+  all is well             or `not all is well`: something is amiss, a mirror isn't COMPLETE, or
+                          there is none
+The status is 0 if all is well, and else 1. A fault, as of a registry that is an empty file, is
+always explained.
 
 Example, for a night's job:
   gmbench check --registry registry --shelf images --data --quiet";
+
+/// What the help of `renew` says below its options.
+pub(crate) const RENEWING: &str =
+    "A registry takes 100,000 commands. The new one has the same mirrors, by one `adopt` for each.
+The old one stays beside it as FILE.1, or FILE.2 if that is taken, and so on:
+  N mirrors are in the new registry
+  FILE.1 keeps the old one, with N commands; their keys are forgotten
+A command that is handed in again under a key of before is carried out again.
+
+It wants every image as it is registered, and ACTIVE components with equal data. Otherwise it prints
+`not done` and a line `PROV HOW` for each image that isn't, and the old registry stays. The images
+keep every byte. It reads the data of all components. If an image is in use, nothing is done without
+--force.
+
+It may be stopped at any time: FILE is the old registry or the new one, and whole. The same words
+begin anew, or finish what is left.
+
+Example:
+  gmbench renew --registry registry --shelf images";
+
+/// What the help of `log` says below its options.
+pub(crate) const ACCEPTED: &str =
+    "It prints a line for each command that the registry has accepted, the oldest first:
+  NUMBER KEY COMMAND WORD..: ok
+  NUMBER KEY COMMAND WORD..: copied K of N
+The number is the one that its answer told. The words are all that it says, with each default. Of a
+patch's data the first 8 digits are printed, and how many sectors they are. With NAME it prints only
+the commands that name this mirror, also if it isn't registered any more.
+With --json it is one line, {\"commands\":[..]}: for each command an object with `number`, `key`,
+`words` and `answer`, and of an advance `copied` and `of`. There a patch has all of its data.
+Nothing is written. What is pending stays pending.
+
+Example:
+  gmbench log --registry registry --last 20 gm0";
 
 /// What the help of `serve` says below its options.
 pub(crate) const REQUESTS: &str =
@@ -228,8 +275,10 @@ Example:
 /// What the help of `replace` says below its options.
 pub(crate) const REPLACING: &str =
     "It inserts NEW, fills it, and removes OLD when NEW is ACTIVE. If OLD's image isn't in the
-folder, it gives OLD up by `lost` and `forget` first. If the mirror has 16 components, which is the
-most, it removes OLD first, and says so. Each command has a key: the first that of --key, or one of
+folder, it gives OLD up by `lost` and `forget` first. So it does if that image has another size or
+no metadata, and another component is ACTIVE, but then it asks first, or wants --force: `mend`
+writes metadata again. If the mirror has 16 components, which is the most, it removes OLD first, and
+says so. Each command has a key: the first that of --key, or one of
 gmbench's own, and the next ones the same with .2 and .3 after it. Each is answered as `do` answers
 it, and after the filling a line says NEW's state.
 
@@ -240,6 +289,26 @@ an image of the mirror is in use, nothing is done without --force.
 
 Example:
   gmbench replace gm0 b.img c.img";
+
+/// What the help of `mend` says below its options.
+pub(crate) const MENDING: &str =
+    "It mends an image whose last sector was damaged or overwritten. It hands in a `configure` that
+changes nothing, and so writes the registered last sectors of all of the mirror's images. It is
+answered as `do` answers it. Before that it compares the image with the mirror's source: all data of
+an ACTIVE one, those below its offset of one that is being filled, nothing of an INACTIVE one. It
+isn't done, and the status is 1, if
+  - the data differ: `rebuild` has the image filled anew;
+  - the image isn't there, or has another size: `replace` puts another one in its place;
+  - another image of the mirror isn't as it is registered, unless --unchecked is given;
+  - an image is in use, unless --force is given.
+If no other component is ACTIVE, or the last sector says another image or is newer than the
+registry, it asks first, or wants --force.
+
+If the image is as it is registered, it says so, and the status is 0. With --json `answer` is then
+`as registered`.
+
+Example:
+  gmbench mend b.img";
 
 /// What the help of `write` says below its options.
 pub(crate) const WRITING: &str =

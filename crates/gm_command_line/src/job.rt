@@ -84,6 +84,16 @@ pub struct Checking {
     pub is_quiet: bool,
 }
 
+/// Which of the accepted commands are to be shown.
+#[derive(Clone, Copy)]
+pub struct Recalling {
+    /// Those about this mirror, or all.
+    pub mirror: Option<Label>,
+    /// So many of them, the last, or all.
+    pub last: Option<u32>,
+    pub form: Form,
+}
+
 /// What is looked at before images are written.
 #[derive(Clone, Copy)]
 pub struct Checks {
@@ -125,6 +135,19 @@ pub struct Replacing<'a> {
     pub is_quiet: bool,
 }
 
+/// Which image's last sector is to be written again as it is registered.
+#[derive(Clone, Copy)]
+pub struct Mending<'a> {
+    pub image: Label,
+    /// The key of its command; if none was given, it gets one of gmbench's own.
+    pub key: Option<&'a str>,
+    pub checks: Checks,
+    /// In which form its answer is printed.
+    pub form: Form,
+    /// Whether nothing is told of how far it is.
+    pub is_quiet: bool,
+}
+
 /// Which data are to be written into a mirror.
 #[derive(Clone, Copy)]
 pub struct Writing<'a> {
@@ -138,6 +161,14 @@ pub struct Writing<'a> {
     pub checks: Checks,
     /// Whether nothing is told of how far it is.
     pub is_quiet: bool,
+}
+
+/// How a registry is to be renewed.
+#[derive(Clone, Copy)]
+pub struct Renewing {
+    /// Whether nothing is renewed while something else uses one of the mirrors' images.
+    pub heeds_use: bool,
+    pub form: Form,
 }
 
 /// What is to be done at a bench whose opening carried out what was pending.
@@ -177,6 +208,8 @@ pub enum Work<'a> {
     AdoptAll(Checks),
     /// Put an image in the place of another.
     Replace(Replacing<'a>),
+    /// Write the registered last sector of an image again.
+    Mend(Mending<'a>),
     /// Write data into a mirror.
     Write(Writing<'a>),
     /// Hand in the commands of an input, and answer each. If it audits, the images that a command
@@ -190,6 +223,8 @@ pub enum Work<'a> {
     },
     /// Fill components.
     Sync(Filling),
+    /// Put a new registry in the place of this one.
+    Renew(Renewing),
     /// Serve requests over HTTP.
     Serve(Service),
 }
@@ -202,7 +237,12 @@ impl Work<'_> {
         ensures { result ≡ makes_registry self.now }
     {
         match *self {
-            Work::Sync(_) | Work::Scrub(_) | Work::Replace(_) | Work::Write(_) => false,
+            Work::Sync(_)
+            | Work::Scrub(_)
+            | Work::Replace(_)
+            | Work::Mend(_)
+            | Work::Write(_)
+            | Work::Renew(_) => false,
             Work::Do { words, .. } => registers(words),
             Work::Command(single) => registers(single.words),
             _ => true,
@@ -261,6 +301,11 @@ pub enum Job<'a> {
         registry: &'a str,
         folder: Option<&'a str>,
         form: Form,
+    },
+    /// Print which commands a registry has accepted.
+    Recall {
+        recalling: Recalling,
+        registry: &'a str,
     },
     /// Look at a registry and a folder, and open no bench.
     LookAt {

@@ -19,8 +19,8 @@ mod tip;
 
 pub use by_itself::{Unnumbered, is_command};
 pub use job::{
-    Asked, Checking, Checks, Comparing, Filling, Form, Job, Look, Manner, Replacing, Scope,
-    Service, Single, Work, Writing,
+    Asked, Checking, Checks, Comparing, Filling, Form, Job, Look, Manner, Mending, Recalling,
+    Renewing, Replacing, Scope, Service, Single, Work, Writing,
 };
 pub use reading::{Handed, Reading, asked_of};
 pub use settings::{EXISTING, EXPLAIN, REGISTRY, SHELF, Setting, Settings};

@@ -2,12 +2,12 @@
 
 use crate::by_itself::{ByItself, Unnumbered, command_named};
 use crate::job::{
-    Asked, Checking, Checks, Comparing, Filling, Form, Job, Look, Manner, Replacing, Scope,
-    Service, Single, Work, Writing,
+    Asked, Checking, Checks, Comparing, Filling, Form, Job, Look, Manner, Mending, Recalling,
+    Renewing, Replacing, Scope, Service, Single, Work, Writing,
 };
 use crate::settings::{REGISTRY, SHELF, Setting, Settings};
 use crate::table::{
-    DUMP, RECOVER, REPLACE, SCRUB, SYNC, Subcommand, WRITE, program, program_command,
+    DUMP, LOG, MEND, RECOVER, REPLACE, SCRUB, SYNC, Subcommand, WRITE, program, program_command,
 };
 use clap::error::ErrorKind;
 use clap::{ArgMatches, Error};
@@ -16,6 +16,9 @@ use std::alloc::{AllocError, Global};
 
 // What a label is made of.
 const LABEL: &str = "a name has 1 to 15 of A-Z, a-z, 0-9, '.', '_' and '-'";
+
+// What a path isn't.
+const WITHOUT_FOLDER: &str = "an image is named without its folder, which --shelf names";
 
 // An argument of a subcommand whose value is a label, as clap names it.
 #[derive(Clone, Copy)]
@@ -49,6 +52,11 @@ const COMPARED: LabelArgument = LabelArgument {
     name: "[NAME]",
 };
 
+const RECALLED: LabelArgument = LabelArgument {
+    of: LOG,
+    name: "[NAME]",
+};
+
 const REPLACED_IN: LabelArgument = LabelArgument {
     of: REPLACE,
     name: "<NAME>",
@@ -62,6 +70,11 @@ const REPLACED: LabelArgument = LabelArgument {
 const REPLACEMENT: LabelArgument = LabelArgument {
     of: REPLACE,
     name: "<NEW>",
+};
+
+const MENDED: LabelArgument = LabelArgument {
+    of: MEND,
+    name: "<PROV>",
 };
 
 const WRITTEN: LabelArgument = LabelArgument {
@@ -78,7 +91,12 @@ impl LabelArgument {
         value: &str,
     ) -> Result<Error, AllocError> {
         let argument = self.name;
-        let message = format!(in alloc; "invalid value '{value}' for '{argument}': {LABEL}")?;
+        let why = if value.contains('/') {
+            WITHOUT_FOLDER
+        } else {
+            LABEL
+        };
+        let message = format!(in alloc; "invalid value '{value}' for '{argument}': {why}")?;
         self.complaint(alloc, settings, message.as_str())
     }
 
@@ -279,6 +297,29 @@ fn comparing_of<'a>(
     })
 }
 
+fn renewing_of(given: &ArgMatches<'_>) -> Renewing {
+    Renewing {
+        heeds_use: !given.get_flag("force"),
+        form: form_of(given),
+    }
+}
+
+fn recalling_of<'a>(
+    alloc: Global,
+    given: &ArgMatches<'a>,
+    settings: Settings<'a>,
+) -> Result<Recalling, Error> {
+    let mirror = match given.get_str("name") {
+        Some(name) => Some(RECALLED.label(alloc, settings, name)?),
+        None => None,
+    };
+    Ok(Recalling {
+        mirror,
+        last: given.get_one("last"),
+        form: form_of(given),
+    })
+}
+
 fn checking_of(given: &ArgMatches<'_>) -> Checking {
     Checking {
         compares: given.get_flag("data"),
@@ -309,6 +350,20 @@ fn replacing_of<'a>(
         new: label_given(alloc, given, settings, REPLACEMENT, "new")?,
         key: given.get_str("key"),
         checks: checks_of(given),
+        is_quiet: given.get_flag("quiet"),
+    })
+}
+
+fn mending_of<'a>(
+    alloc: Global,
+    given: &ArgMatches<'a>,
+    settings: Settings<'a>,
+) -> Result<Mending<'a>, Error> {
+    Ok(Mending {
+        image: label_given(alloc, given, settings, MENDED, "provider")?,
+        key: given.get_str("key"),
+        checks: checks_of(given),
+        form: form_of(given),
         is_quiet: given.get_flag("quiet"),
     })
 }
@@ -368,6 +423,7 @@ fn work_of<'a>(
         "do" => Some(command_of(given, words)),
         "adopt" => Some(Work::AdoptAll(checks_of(given))),
         "replace" => Some(Work::Replace(replacing_of(alloc, given, settings)?)),
+        "mend" => Some(Work::Mend(mending_of(alloc, given, settings)?)),
         "write" => Some(Work::Write(writing_of(alloc, given, settings)?)),
         "batch" => Some(Work::Batch {
             audits: given.get_flag("audit"),
@@ -375,6 +431,7 @@ fn work_of<'a>(
             guards: given.get_flag("guarded"),
         }),
         "sync" => Some(Work::Sync(filling_of(alloc, given, settings)?)),
+        "renew" => Some(Work::Renew(renewing_of(given))),
         "serve" => Some(Work::Serve(service_of(given))),
         _ => None,
     })
@@ -389,6 +446,10 @@ fn without_bench<'a>(
 ) -> Result<Job<'a>, Error> {
     match name {
         "pending" => pending_of(alloc, given, settings),
+        "log" => Ok(Job::Recall {
+            recalling: recalling_of(alloc, given, settings)?,
+            registry: registry_of(alloc, given, settings)?,
+        }),
         "check" => Ok(Job::Check {
             checking: checking_of(given),
             registry: registry_of(alloc, given, settings)?,

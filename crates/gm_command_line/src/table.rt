@@ -3,7 +3,8 @@
 use crate::argument::{Argument, FLAG, Given, NAME, Need, OPTION, with_arguments};
 use crate::by_itself::{ByItself, commands};
 use crate::help::{
-    CHECKING, COMPARING, FILLING, HELP, LINES, LOSSES, REPLACING, REQUESTS, WORDS, WRITES, WRITING,
+    ACCEPTED, CHECKING, COMPARING, FILLING, HELP, LINES, LOSSES, MENDING, RENEWING, REPLACING,
+    REQUESTS, WORDS, WRITES, WRITING,
 };
 use crate::settings::Settings;
 use clap::Command;
@@ -42,6 +43,12 @@ const UNCHECKED: Argument = Argument {
 // Of a recovery, which compares other things.
 const UNCHECKED_LEFT: Argument = Argument {
     help: "Doesn't look first at what lies under the names of pending images",
+    ..UNCHECKED
+};
+
+// Of what is done to an image that isn't so.
+const UNCHECKED_OTHERS: Argument = Argument {
+    help: "Doesn't look first whether the other images are as they are registered",
     ..UNCHECKED
 };
 
@@ -87,7 +94,7 @@ const STOP: Argument = Argument {
     ..FLAG
 };
 
-const LOG: Argument = Argument {
+const LOGGED: Argument = Argument {
     word: "--log",
     help: "Logs a line for each connection, on standard error",
     ..FLAG
@@ -102,7 +109,7 @@ const ANY_ORIGIN: Argument = Argument {
 const REGISTRY: Argument = Argument {
     word: "--registry",
     value: "FILE",
-    help: "The registry, which is made where there is none",
+    help: "The registry, which is made if there is none",
     need: Need::UnlessRegistryIsSet,
     ..OPTION
 };
@@ -180,6 +187,14 @@ const COUNT: Argument = Argument {
     value: "N",
     help: "How many connections are served",
     given: Given::Number(1, 4_294_967_295),
+    ..OPTION
+};
+
+const LAST: Argument = Argument {
+    word: "--last",
+    value: "N",
+    help: "Only so many of them, the last",
+    given: Given::Number(1, 100_000),
     ..OPTION
 };
 
@@ -277,6 +292,13 @@ const PENDING: Subcommand = Subcommand {
     takes: &[REGISTRY_THERE, SHELF_IF_ANY, JSON, EXPLAIN, WAIT],
 };
 
+pub(crate) const LOG: Subcommand = Subcommand {
+    name: "log",
+    about: "Prints which commands were accepted, and writes nothing",
+    more: ACCEPTED,
+    takes: &[REGISTRY_THERE, EXPLAIN, WAIT, LAST, JSON, MIRROR_IF_ANY],
+};
+
 pub(crate) const RECOVER: Subcommand = Subcommand {
     name: "recover",
     about: "Carries out what a run that stopped left pending",
@@ -347,6 +369,24 @@ pub(crate) const REPLACE: Subcommand = Subcommand {
     ],
 };
 
+pub(crate) const MEND: Subcommand = Subcommand {
+    name: "mend",
+    about: "Writes the last sector of an image again as it is registered",
+    more: MENDING,
+    takes: &[
+        REGISTRY_THERE,
+        SHELF,
+        EXPLAIN,
+        WAIT,
+        JSON,
+        UNCHECKED_OTHERS,
+        FORCE,
+        QUIET,
+        OWN_KEY,
+        IMAGE,
+    ],
+};
+
 pub(crate) const WRITE: Subcommand = Subcommand {
     name: "write",
     about: "Writes the data of a file into a mirror",
@@ -366,7 +406,7 @@ pub(crate) const WRITE: Subcommand = Subcommand {
     ],
 };
 
-const SUBCOMMANDS: [Subcommand; 15] = [
+const SUBCOMMANDS: [Subcommand; 18] = [
     DUMP,
     Subcommand {
         name: "taste",
@@ -401,6 +441,7 @@ const SUBCOMMANDS: [Subcommand; 15] = [
         more: CHECKING,
         takes: &[REGISTRY_THERE, SHELF, EXPLAIN, WAIT, DATA, JSON, QUIET],
     },
+    LOG,
     Subcommand {
         name: "do",
         about: "Carries out one command under a key",
@@ -418,14 +459,22 @@ const SUBCOMMANDS: [Subcommand; 15] = [
         ],
     },
     REPLACE,
+    MEND,
     WRITE,
     SYNC,
+    Subcommand {
+        name: "renew",
+        about: "Puts a new registry in the place of one that is nearly full",
+        more: RENEWING,
+        takes: &[REGISTRY_THERE, SHELF, EXPLAIN, WAIT, JSON, FORCE_USED],
+    },
     Subcommand {
         name: "serve",
         about: "Answers requests over HTTP, on 127.0.0.1 alone",
         more: REQUESTS,
         takes: &[
-            REGISTRY, SHELF, EXISTING, EXPLAIN, WAIT, PORT, COUNT, LOG, AUDIT, GUARDED, ANY_ORIGIN,
+            REGISTRY, SHELF, EXISTING, EXPLAIN, WAIT, PORT, COUNT, LOGGED, AUDIT, GUARDED,
+            ANY_ORIGIN,
         ],
     },
 ];
@@ -448,10 +497,10 @@ pub(crate) fn is_subcommand(word: &str) -> bool {
     subcommand_named(word).is_some()
 }
 
-/// Whether a subcommand has this name that is about a registry.
-pub(crate) fn is_at_registry(word: &str) -> bool {
+/// Whether a subcommand has this name that takes the option.
+pub(crate) fn takes_option(word: &str, option: &str) -> bool {
     match subcommand_named(word) {
-        Some(subcommand) => subcommand.takes.iter().any(|it| it.word == REGISTRY.word),
+        Some(subcommand) => subcommand.takes.iter().any(|it| it.word == option),
         None => false,
     }
 }

@@ -1,7 +1,7 @@
 //! Where the first of words belongs that clap doesn't take.
 
 use crate::by_itself::is_command;
-use crate::table::{is_at_registry, is_subcommand};
+use crate::table::{is_subcommand, takes_option};
 use gm_commands::is_key;
 use std::fmt;
 
@@ -35,8 +35,9 @@ impl fmt::Display for Tip<'_> {
 // Which commands have an option.
 #[derive(Clone, Copy)]
 enum Having {
-    All,
-    AtRegistry,
+    /// Those whose table lists it.
+    Listed,
+    /// Those that change mirrors.
     Changing,
 }
 
@@ -52,22 +53,22 @@ const OPTIONS: [Shared; 8] = [
     Shared {
         name: "--registry",
         has_value: true,
-        having: Having::AtRegistry,
+        having: Having::Listed,
     },
     Shared {
         name: "--shelf",
         has_value: true,
-        having: Having::All,
+        having: Having::Listed,
     },
     Shared {
         name: "--explain",
         has_value: false,
-        having: Having::All,
+        having: Having::Listed,
     },
     Shared {
         name: "--wait",
         has_value: true,
-        having: Having::AtRegistry,
+        having: Having::Listed,
     },
     Shared {
         name: "--existing",
@@ -103,8 +104,7 @@ impl Shared {
     // Whether a word is a command that has this option.
     fn is_of(self, word: &str) -> bool {
         match self.having {
-            Having::All => is_subcommand(word) || is_command(word),
-            Having::AtRegistry => is_at_registry(word) || is_command(word),
+            Having::Listed => takes_option(word, self.name) || is_command(word),
             Having::Changing => is_command(word),
         }
     }

@@ -3,7 +3,7 @@
 
 use crate::refusal::DumpRefusal;
 use gm_command_line::Form;
-use gm_json::{decode_json, metadata_json};
+use gm_json::{decode_json, metadata_json, refused_json};
 use gm_metadata::{Label, decode};
 use gm_process::{Failure, Status, Streams};
 use gm_refusals::{CallRefusal, Refusal};
@@ -35,6 +35,14 @@ fn sector_json(alloc: Global, sector: &[u8; 512]) -> Result<String, AllocError> 
         Err(fault) => decode_json(alloc, fault)?,
     };
     as_line(text)
+}
+
+// That there is none, by the number of the refusal.
+fn refused_text(alloc: Global, number: u8, form: Form) -> Result<String, AllocError> {
+    match form {
+        Form::Text => format!(in alloc; "refused {number}\n"),
+        Form::Json => as_line(refused_json(alloc, number)?),
+    }
 }
 
 // Why the last sector of an image can't be printed.
@@ -84,8 +92,8 @@ pub fn dump<I, O: Write, E: Write>(
             })
         }
         Err(refusal) => {
-            let number = refusal.number();
-            writeln!(streams.output, "refused {number}")?;
+            let text = refused_text(alloc, refusal.number(), form)?;
+            streams.output.write_all(text.as_bytes())?;
             explain(alloc, streams, provider, refusal);
             Ok(Status::Refused)
         }

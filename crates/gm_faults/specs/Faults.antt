@@ -1,5 +1,8 @@
 -- The faults that end the program, by what fails around it.
+use Rattle.gm_bench.specs.Faults.{of_store}
 use Rattle.gm_bench.specs.declared.fault.BenchFault.TheVariants as bench
+use Rattle.gm_history.specs.declared.fault.HistoryFault.{HistoryFault}
+use Rattle.gm_history.specs.declared.fault.HistoryFault.TheVariants as history
 use Rattle.gm_process.specs.declared.failure.Failure.{Failure}
 use Rattle.gm_process.specs.declared.failure.Failure.TheVariants as failure
 use Rattle.gm_faults.specs.declared.fault.Fault.{Fault}
@@ -10,3 +13,8 @@ abbrev pub of_failure : Failure → Fault
 of_failure failure.Memory = Bench bench.Memory
 of_failure failure.Disk = Bench bench.Disk
 of_failure failure.InputOrOutput = InputOrOutput
+
+-- so is a registry that fails
+abbrev pub of_history : HistoryFault → Fault
+of_history (history.Store fault) = Bench (of_store fault)
+of_history history.Output = InputOrOutput

@@ -3,6 +3,7 @@
 ghost use Rattle.std.specs.Prelude.{◌≡◌};
 
 use gm_bench::BenchFault;
+use gm_history::HistoryFault;
 use gm_process::Failure;
 use gm_registry::StoreFault;
 use gm_shelf::ShelfFault;
@@ -91,6 +92,19 @@ impl From<Failure> for Fault {
             Failure::Memory => Fault::MEMORY,
             Failure::Disk => Fault::Bench(BenchFault::Disk),
             Failure::InputOrOutput => Fault::InputOrOutput,
+        }
+    }
+}
+
+impl From<HistoryFault> for Fault {
+    ghost use Rattle.gm_faults.specs.Faults.{of_history};
+
+    ghost from_gives = { λ cause fault. fault ≡ of_history cause };
+
+    fn from(cause: HistoryFault) -> Self {
+        match cause {
+            HistoryFault::Store(fault) => Fault::from(fault),
+            HistoryFault::Output => Fault::InputOrOutput,
         }
     }
 }

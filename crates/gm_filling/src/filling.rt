@@ -6,7 +6,7 @@ ghost use Rattle.gm_bench.specs.Phases.{TakesCommands};
 ghost use Rattle.gm_process.specs.Statuses.{MayRefuse};
 ghost use Rattle.gm_process.specs.declared.status.Status.TheVariants.{Refused};
 
-use crate::needs::{name_room, name_stale, needed};
+use crate::needs::{has_room, name_due, name_stale, needed};
 use crate::standing::{refused_json, standing_json, standing_text};
 use crate::uses::{in_use_report, in_use_to_fill};
 use gm_bench::{Bench, BenchFault};
@@ -25,7 +25,7 @@ use sqlite::Alter;
 use std::alloc::{AllocError, Global};
 use std::io::Write;
 
-// Tells what is needed to fill what is meant, and then how far that is.
+// Tells what waits for a rebuild, and then how far the filling is.
 #[derive(Drop)]
 struct Filled<'a, E> {
     meter: Meter<'a, E>,
@@ -34,13 +34,12 @@ struct Filled<'a, E> {
 }
 
 impl<E: Write> Progress for Filled<'_, E> {
-    fn looked(&mut self, state: &State, accepted: u64) {
+    fn looked(&mut self, state: &State, _accepted: u64) {
         if self.has_begun {
             return;
         }
         self.has_begun = true;
         name_stale(self.meter.complaints, state, &self.scope);
-        name_room(self.meter.complaints, needed(state, &self.scope), accepted);
     }
 
     fn filled(&mut self, provider: Label, held: u32, total: u32) {
@@ -101,6 +100,27 @@ fn in_use<S: Alter, H: Shelf, I, O, E>(
     let state = bench.view(rt.alloc())?;
     let folder = streams.explaining.folder.as_str();
     Ok(in_use_to_fill(rt, folder, &state, scope)?)
+}
+
+// Whether the registry takes as many commands as fill what is meant. If it doesn't, or a new one is
+// due, it says so.
+fn has_room_for<S: Alter, H: Shelf, I, O, E: Write>(
+    alloc: Global,
+    scope: &Scope,
+    bench: &mut Bench<S, H>,
+    streams: &mut Streams<'_, I, O, E>,
+) -> Result<bool, BenchFault>
+    requires { TakesCommands (progress_of bench.old) }
+    ensures { OnOk result (TakesCommands (progress_of bench.new)) }
+{
+    let accepted = bench.accepted()?;
+    let state = bench.view(alloc)?;
+    let complaints = &mut *streams.complaints;
+    let has_room = has_room(complaints, needed(&state, scope), accepted);
+    if has_room {
+        name_due(complaints, accepted);
+    }
+    Ok(has_room)
 }
 
 // What a refused advance is about.
@@ -208,6 +228,21 @@ fn not_there_report<I, O, E: Write>(
     }
 }
 
+// That the registry takes too few commands. What that means is said before.
+fn no_room_report(alloc: Global, form: Form) -> Result<Report, AllocError>
+    ensures { IfOk result (λ report. report.status ≡ Refused) }
+{
+    let number = CallRefusal::NoRoom.number();
+    let text = match form {
+        Form::Text => format!(in alloc; "refused {number}\n")?,
+        Form::Json => refused_json(alloc, number, &[])?,
+    };
+    Ok(Report {
+        status: Status::Refused,
+        text,
+    })
+}
+
 // Fills the components that are meant, and says how they stand then.
 fn fill<S: Alter, H: Shelf, I, O, E: Write>(
     rt: &HostRuntime,
@@ -237,7 +272,8 @@ fn fill<S: Alter, H: Shelf, I, O, E: Write>(
 
 /// Fills components, and says how they stand then. It is refused if a mirror is passed over,
 /// because an image of it isn't as it is registered, also if all others are filled. Nothing is
-/// filled if something else uses an image of one of the mirrors and that matters.
+/// filled if the registry doesn't take as many commands as that needs, or if something else uses an
+/// image of one of the mirrors and that matters.
 pub fn fill_components<S: Alter, H: Shelf, I, O, E: Write>(
     rt: &HostRuntime,
     filling: Filling,
@@ -252,6 +288,9 @@ pub fn fill_components<S: Alter, H: Shelf, I, O, E: Write>(
     let scope = scope_of(filling.scope);
     if let Some(why) = not_there(alloc, bench, scope)? {
         return Ok(not_there_report(alloc, streams, why, filling.form)?);
+    }
+    if !has_room_for(alloc, &scope, bench, streams)? {
+        return Ok(no_room_report(alloc, filling.form)?);
     }
     if let Some(found) = in_use(rt, filling, &scope, bench, streams)? {
         return Ok(in_use_report(alloc, &found, filling.form, streams)?);

@@ -1,11 +1,12 @@
 //! What filling components needs, told before it begins.
 
+use gm_commands::MAX_COMMANDS;
 use gm_state::{Component, ComponentState, State, component_state};
 use gm_sync::Scope;
 use std::io::Write;
 
-// How many commands may be accepted in all.
-const ROOM: u64 = 100_000;
+// From so many accepted commands on, a new registry is due.
+const DUE: u64 = 80_000;
 
 // How many sectors an advance copies at most.
 const STRETCH: u64 = 256;
@@ -48,13 +49,25 @@ pub(crate) fn name_stale<E: Write>(complaints: &mut E, state: &State, scope: &Sc
     }
 }
 
-/// Says so if the registry may not take as many commands as are needed.
-pub(crate) fn name_room<E: Write>(complaints: &mut E, needed: u64, accepted: u64) {
-    let room = ROOM.saturating_sub(accepted);
-    if room < needed {
+/// Whether the registry takes as many commands as are needed. If it doesn't, it says so.
+pub(crate) fn has_room<E: Write>(complaints: &mut E, needed: u64, accepted: u64) -> bool {
+    let room = u64::from(MAX_COMMANDS).saturating_sub(accepted);
+    if needed <= room {
+        return true;
+    }
+    let _ = writeln!(
+        complaints,
+        "this takes {needed} commands, and the registry takes {room} more: renew it first"
+    );
+    false
+}
+
+/// Says so if a new registry is due.
+pub(crate) fn name_due<E: Write>(complaints: &mut E, accepted: u64) {
+    if accepted >= DUE {
         let _ = writeln!(
             complaints,
-            "this takes {needed} commands, and the registry takes {room} more"
+            "the registry has {accepted} of {MAX_COMMANDS} commands: renew it soon"
         );
     }
 }

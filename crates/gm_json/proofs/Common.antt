@@ -13,5 +13,6 @@ pub use Rattle.gm_json.specs.Checks.{check_data, unlike_data}
 pub use Rattle.gm_json.specs.Fields.{text_of}
 pub use Rattle.gm_json.specs.Keyed.{in_the_way_data, withheld_data}
 pub use Rattle.gm_json.specs.Mirrors.{component_data, mirror_data, standing_component, standing_mirror, status_data, mirror_json, status_json}
+pub use Rattle.gm_json.specs.Renewals.{not_renewed_data}
 pub use Rattle.gm_json.specs.Shown.{disk_flag_names, held_component, held_data, held_mirror, name_where, shown_component, shown_data, shown_mirror}
 pub use Rattle.gm_json.specs.Tastings.{filled_to, left_data, passed_data, tasted_component, tasted_mirror, tasted_with, tasting_data}

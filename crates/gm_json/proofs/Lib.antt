@@ -1,3 +1,4 @@
 pub mod Common
 pub mod Grown
+pub mod KeptCommands
 pub mod NoFloats

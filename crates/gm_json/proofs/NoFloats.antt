@@ -1,5 +1,5 @@
 -- No value that is built here has a float.
-use Rattle.gm_json.proofs.Common.{◌≡◌, ℕ, Bool, true, false, List, [], ◌∷◌, ◌++◌, Option, Some, None, map, refl, Mirror, disk_flags, Records, members, Data, string, items_of, has_float, items_have_float, audit_data, difference_data, differing, scrub_data, uncompared, check_data, unlike_data, in_the_way_data, withheld_data, component_data, mirror_data, standing_component, standing_mirror, status_data, disk_flag_names, held_component, held_data, held_mirror, name_where, shown_component, shown_data, shown_mirror, filled_to, left_data, passed_data, tasted_component, tasted_mirror, tasted_with, tasting_data}
+use Rattle.gm_json.proofs.Common.{◌≡◌, ℕ, Bool, true, false, List, [], ◌∷◌, ◌++◌, Option, Some, None, map, refl, Mirror, disk_flags, Records, members, Data, string, items_of, has_float, items_have_float, audit_data, difference_data, differing, scrub_data, uncompared, check_data, unlike_data, in_the_way_data, withheld_data, not_renewed_data, component_data, mirror_data, standing_component, standing_mirror, status_data, disk_flag_names, held_component, held_data, held_mirror, name_where, shown_component, shown_data, shown_mirror, filled_to, left_data, passed_data, tasted_component, tasted_mirror, tasted_with, tasting_data}
 use Rattle.std.specs.Prelude.{codes}
 use Rattle.gm_state.specs.declared.records.Component.{Component}
 use Rattle.gm_state.specs.declared.records.Disk.{Disk}
@@ -8,7 +8,10 @@ use Rattle.gm_taste.specs.declared.tasted.Member.{Member}
 use Rattle.gm_taste.specs.declared.tasted.Group.{Group}
 use Rattle.gm_taste.specs.declared.tasted.Tasted.{Tasted}
 use Rattle.gm_shelf.specs.declared.passed_over.PassedOver.{PassedOver}
-use Rattle.gm_looks.specs.declared.scrub.Scrubbed.{Scrubbed}
+use Rattle.gm_json.specs.Audits.{equal_to}
+use Rattle.gm_json.specs.Checks.{claim_data}
+use Rattle.gm_json.specs.declared.audits.Difference.{Difference}
+use Rattle.gm_unlike.specs.declared.unequal.Unequal.{Unequal}
 use Rattle.gm_unlike.specs.declared.checkup.Checkup.{Checkup}
 use Rattle.gm_looks.specs.declared.unlike.Unlike.{Unlike}
 
@@ -70,21 +73,31 @@ pub withheld_none : (key : List ℕ) (list : List Unlike)
     → has_float (withheld_data key list) ≡ false
 withheld_none key list = rw (none_of_each in_the_way_data list (λ x. refl))
 
+pub not_renewed_none : (list : List Unlike) → has_float (not_renewed_data list) ≡ false
+not_renewed_none list = rw (none_of_each in_the_way_data list (λ x. refl))
+
 pub audit_none : (names : List (List ℕ)) → has_float (audit_data names) ≡ false
 audit_none names = rw (none_of_each string names (λ name. refl))
 
-pub scrub_none : (flaws : List Scrubbed) → has_float (scrub_data flaws) ≡ false
+difference_none : (ds : List Difference) (d : Difference)
+    → has_float (difference_data ds d) ≡ false
+difference_none ds d = rw (none_of_each string (equal_to ds d) (λ name. refl))
+
+pub scrub_none : (flaws : List Unequal) → has_float (scrub_data flaws) ≡ false
 scrub_none flaws =
-    rw (none_of_each difference_data (differing flaws) (λ d. refl))
+    rw (none_of_each (difference_data (differing flaws)) (differing flaws)
+    (difference_none (differing flaws)))
     (rw (none_of_each string (uncompared flaws) (λ name. refl)))
 
 pub check_none : (c : Checkup) → has_float (check_data c) ≡ false
 check_none c =
     rw (none_of_each unlike_data c.unlike.now (λ x. refl))
-    (rw (none_of_each difference_data (differing c.flaws.now) (λ d. refl))
+    (rw (none_of_each claim_data c.claims.now (λ x. refl))
+    (rw (none_of_each (difference_data (differing c.flaws.now)) (differing c.flaws.now)
+    (difference_none (differing c.flaws.now)))
     (rw (none_of_each (λ m. standing_mirror m (members c.state.now.components m.name))
     c.state.now.mirrors (λ m. standing_mirror_none m (members c.state.now.components m.name)))
-    (rw (none_of_each string (uncompared c.flaws.now) (λ name. refl)))))
+    (rw (none_of_each string (uncompared c.flaws.now) (λ name. refl))))))
 
 tasted_with_none : (filled : Option ℕ) (x : Member) → has_float (tasted_with filled x) ≡ false
 tasted_with_none None x = refl

@@ -2,9 +2,10 @@
 use Rattle.std.specs.Prelude.{ℕ, List, [], ◌∷◌, codes, length}
 use Rattle.gm_state.specs.Records.{members}
 use Rattle.gm_looks.specs.declared.unlike.Unlike.{Unlike}
-use Rattle.gm_unlike.specs.Checkups.{is_well}
+use Rattle.gm_unlike.specs.Checkups.{is_well, renewal_of, renewal_word}
 use Rattle.gm_unlike.specs.Texts.{told_standing}
 use Rattle.gm_unlike.specs.declared.checkup.Checkup.{Checkup}
+use Rattle.gm_unlike.specs.declared.claims.Claim.{Claim}
 use Rattle.serde_json.specs.Data.{Data}
 use Rattle.gm_json.specs.Audits.{difference_data, differing, uncompared}
 use Rattle.gm_json.specs.Fields.{each_at, number_at, object_of, text_at, text_of, texts_at, truth_at}
@@ -17,7 +18,15 @@ unlike_data x = object_of (
     ∷ text_at (codes "name") x.provider
     ∷ [])
 
--- how much of the registry is used, and how much it takes
+-- an image that claims to be a component, or was one until it was given up
+abbrev pub claim_data : Claim → Data
+claim_data c = object_of (
+    truth_at (codes "given_up") c.is_given_up
+    ∷ text_at (codes "mirror") c.mirror
+    ∷ text_at (codes "name") c.provider
+    ∷ [])
+
+-- how much of the registry is used, how much it takes, and when a new one is due
 abbrev pub usage_data : Checkup → Data
 usage_data c = object_of (
     number_at (codes "bytes") c.bytes
@@ -25,13 +34,15 @@ usage_data c = object_of (
     ∷ number_at (codes "commands_of") 100000
     ∷ number_at (codes "mirrors") (length c.state.now.mirrors)
     ∷ number_at (codes "mirrors_of") 64
+    ∷ text_at (codes "renew") (renewal_word (renewal_of c.commands))
     ∷ [])
 
 -- what a check found
 abbrev pub check_data : Checkup → Data
 check_data c = object_of (
     each_at (codes "amiss") unlike_data c.unlike.now
-    ∷ each_at (codes "differ") difference_data (differing c.flaws.now)
+    ∷ each_at (codes "claims") claim_data c.claims.now
+    ∷ each_at (codes "differ") (difference_data (differing c.flaws.now)) (differing c.flaws.now)
     ∷ each_at (codes "mirrors")
     (λ m. standing_mirror m (members c.state.now.components m.name)) c.state.now.mirrors
     ∷ number_at (codes "pending") c.pending

@@ -2,8 +2,10 @@ pub mod Answers
 pub mod Audits
 pub mod Checks
 pub mod Fields
+pub mod History
 pub mod Keyed
 pub mod Mirrors
+pub mod Renewals
 pub mod Sectors
 pub mod Shown
 pub mod Tastings

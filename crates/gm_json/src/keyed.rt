@@ -85,7 +85,7 @@ fn in_the_way_value(alloc: Global, unlike: &Unlike) -> Result<Value, AllocError>
     json!(in alloc; {"image": image, "standing": standing})
 }
 
-fn in_the_way_values(alloc: Global, list: &[Unlike]) -> Result<Vec<Value>, AllocError>
+pub(crate) fn in_the_way_values(alloc: Global, list: &[Unlike]) -> Result<Vec<Value>, AllocError>
     ensures { IfOk result (λ vs. items_view vs.items ≡ items_of (map in_the_way_data list.now)) }
 {
     let mut values = Vec::new(alloc);

@@ -6,18 +6,16 @@ use Rattle.std.proofs.lemmas.List.Sums.{length-filter, count_by-le-length}
 use Rattle.gm_metadata.specs.Images.{Image, Sizes}
 use Rattle.gm_lists.specs.Ordered.{Has}
 use Rattle.gm_lists.proofs.Sorting.{all_has}
-use Rattle.gm_lists.proofs.Order.{lt_irrefl}
 use Rattle.gm_state.specs.declared.records.Mirror.{Mirror}
 use Rattle.gm_state.specs.declared.records.Component.{Component}
 use Rattle.gm_state.specs.Intents.{IsOf}
 use Rattle.gm_state.specs.Lookups.{is_active}
 use Rattle.gm_state.specs.Records.{Records, IsState, members}
-use Rattle.gm_state.specs.Sources.{GoesFirst, IsBest}
 use Rattle.gm_looks.specs.Audits.{IsAsRegistered}
 use Rattle.gm_looks.specs.Scrubs.{IsActiveOf, IsScrub}
 use Rattle.gm_looks.specs.Unlikes.{IsUnlike, is_meant}
 use Rattle.gm_looks.specs.declared.unlike.Meant.TheVariants.{All}
-use Rattle.gm_looks.proofs.MirrorSource.{first_trans}
+use Rattle.gm_unlike.proofs.ToldBeside.{one_best}
 use Rattle.gm_unlike.specs.Checkups.{is_complete_in}
 
 -- ---- lists
@@ -73,22 +71,6 @@ as_registered s size seen unlike m k of =
     elim (unlike.others m k of refl) [ inl is ↦ is | inr told ↦ absurd told.1 ]
 
 -- ---- the data
-
-not_first : (a : Component) → GoesFirst a a → ⊥
-not_first a (inl less) = omega arith
-not_first a (inr same) = lt_irrefl a.provider same.1
-
--- there is one best
-one_best : (P : Component → Type 0) (a b : Component) → IsBest P (Some a) → IsBest P (Some b)
-    → a ≡ b
-one_best P a b first second =
-    elim (first.1 b second.0) [
-      | inl same ↦ sym same
-      | inr before ↦ elim (second.1 a first.0) [
-        | inl same ↦ same
-        | inr after ↦ absurd (not_first a (first_trans a b a before after))
-      ]
-    ]
 
 pub equal_data : (s : Records) (size : Sizes) (seen : Image) → IsScrub s size seen None []
     → (m : Mirror) (j k : Component) → IsActiveOf s m j → IsActiveOf s m k

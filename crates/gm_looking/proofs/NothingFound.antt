@@ -1,5 +1,5 @@
 -- What is found if all is well: nothing.
-use Rattle.std.proofs.Common.{◌≡◌, ◌∙◌, inl, inr, ℕ, ◌<◌, ◌-◌, ◌==◌, Bool, true, refl, sym, arith, List, [], ◌∷◌, filter, length, Some, None, eq-eqb, if◌then◌else◌}
+use Rattle.std.proofs.Common.{◌≡◌, ◌∙◌, inl, inr, ℕ, ◌<◌, ◌-◌, ◌==◌, Bool, true, refl, sym, arith, List, [], ◌∷◌, filter, length, map, Some, None, eq-eqb, if◌then◌else◌}
 use Rattle.std.specs.List.{count_by, list_all}
 use Rattle.std.specs.Option.{option_and_then}
 use Rattle.std.proofs.lemmas.Bool.{ne_eqb}
@@ -24,6 +24,11 @@ use Rattle.gm_looks.specs.declared.standing.Standing.TheVariants.{AsRegistered}
 use Rattle.gm_looks.specs.declared.unlike.Meant.TheVariants.{All}
 use Rattle.gm_looks.specs.declared.unlike.Unlike.{Unlike}
 use Rattle.gm_unlike.specs.Checkups.{is_complete_in}
+
+-- none were mapped if none is there
+pub none_mapped : {X Y : Type 0} (f : X → Y) (xs : List X) → map f xs ≡ [] → xs ≡ []
+none_mapped f [] e = refl
+none_mapped f (x ∷ xs) e = let no : ⊥ = cc in absurd no
 
 -- as many pass as there are if each passes
 all_pass : {X : Type 0} (p : X → Bool) (xs : List X) → ((x : X) → Has xs x → p x ≡ true)

@@ -2,16 +2,15 @@
 
 ghost use Rattle.std.specs.Prelude.{◌≡◌, ◌++◌, IfOk, OnOk};
 ghost use Rattle.std.specs.String.{string_bytes};
-ghost use Rattle.gm_looking.specs.Checks.{check_text, pending_lines, usage_line, used_words, verdict, IsChecked};
+ghost use Rattle.gm_looking.specs.Checks.{check_text, pending_lines, renewal_line, usage_line, used_words, verdict, IsChecked};
 
-use crate::flaws::flaws_text;
 use gm_command_line::Form;
 use gm_commands::MAX_COMMANDS;
 use gm_json::check_json;
 use gm_process::Status;
 use gm_reports::{Report, as_line};
 use gm_state::MAX_MIRRORS;
-use gm_unlike::{Checkup, unlike_lines};
+use gm_unlike::{Checkup, Renewal, claim_lines, unequal_lines, unlike_lines};
 use gm_words::status_text;
 use std::alloc::{AllocError, Global};
 
@@ -33,6 +32,21 @@ fn push_used(text: &mut String, what: &str, used: u64, most: u64) -> Result<(), 
         (string_bytes text.new ≡ string_bytes text.old ++ used_words what.now used most) }
 {
     write!(text, "{what} {used} of {most}, ")
+}
+
+// Appends that a new registry is due, if it is.
+fn push_renewal(text: &mut String, found: &Checkup<'_>) -> Result<(), AllocError>
+    ensures { OnOk result (string_bytes text.new ≡ string_bytes text.old
+        ++ renewal_line found.now.commands) }
+{
+    let when = match found.renewal() {
+        Renewal::NotYet => return Ok(()),
+        Renewal::Soon => "soon",
+        Renewal::Now => "now",
+    };
+    let commands = found.commands;
+    write!(text, "commands {commands} of {MAX_COMMANDS}: ")?;
+    writeln!(text, "renew the registry {when}, by gmbench renew")
 }
 
 // Appends how much of the registry is used.
@@ -63,8 +77,10 @@ fn check_text(alloc: Global, found: &Checkup<'_>) -> Result<String, AllocError>
 {
     let mut text = status_text(alloc, found.state)?;
     text.push_str(&unlike_lines(alloc, found.unlike)?)?;
-    text.push_str(&flaws_text(alloc, found.flaws)?)?;
+    text.push_str(&claim_lines(alloc, found.claims)?)?;
+    text.push_str(&unequal_lines(alloc, found.flaws)?)?;
     push_pending(&mut text, found.pending)?;
+    push_renewal(&mut text, found)?;
     push_usage(&mut text, found)?;
     text.push_str(verdict(found.is_well()))?;
     Ok(text)

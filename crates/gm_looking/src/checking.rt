@@ -27,7 +27,8 @@ fn amiss_of<H: Shelf, I, O, E: Write>(
     streams: &mut Streams<'_, I, O, E>,
 ) -> Result<Amiss, Fault>
     ensures amiss { H.honest shelf.old → IfOk result (λ amiss. AreAmiss checking state.now
-        (H.size shelf.old) (H.view shelf.old).seen amiss.unlike.items amiss.flaws.items) }
+        (H.size shelf.old) (H.view shelf.old).seen amiss.unlike.items amiss.flaws.items
+        amiss.claims.items) }
     ensures looks { ReadsOnly H.Shelf shelf.old shelf.new }
 {
     let style = streams
@@ -60,6 +61,7 @@ pub fn check_shelf<H: Shelf, I, O, E: Write>(
         state: &records.state,
         unlike: &amiss.unlike,
         flaws: &amiss.flaws,
+        claims: &amiss.claims,
         pending: records.intents.len(),
         commands: whole.accepted,
         bytes,
@@ -68,7 +70,7 @@ pub fn check_shelf<H: Shelf, I, O, E: Write>(
 }
 
 /// Prints how the mirrors and their images stand, how much of the registry is used, and whether all
-/// is well.
+/// is well. A fault is explained, wherever the complaints go: a night's job has no terminal.
 pub fn check_place<I, O: Write, E: Write>(
     rt: &HostRuntime,
     checking: Checking,
@@ -78,6 +80,7 @@ pub fn check_place<I, O: Write, E: Write>(
 ) -> Result<Status, Fault>
     ensures { IfOk result MayRefuse }
 {
+    streams.explaining.wanted = true;
     let _held = hold(rt, place.folder, patience, streams)?;
     let whole = records_at(rt, place.registry, patience, streams)?;
     let bytes = length_of(rt, place.registry)?;

@@ -10,9 +10,10 @@ ghost use Rattle.gm_state.specs.Records.{IsState};
 ghost use Rattle.gm_looking.specs.AllWell.{IsAllWell};
 ghost use Rattle.gm_looking.specs.Checks.{IsCheckOf};
 
-/// A check's status is 0 just if all is well: nothing is pending, no mirror lacks a component, each
-/// is ACTIVE and its image as it is registered, and with `--data` the components of a mirror hold
-/// equal data.
+/// A check's status is 0 just if all is well: there is a mirror, nothing is pending, no mirror lacks
+/// a component, each is ACTIVE and its image as it is registered, no other image carries a mirror's
+/// metadata unless it was given up, the registry has room for 5,000 commands at least, and with
+/// `--data` the components of a mirror hold equal data.
 pub fn check_law()
     ensures { (checking : Checking) (whole : Whole) (bytes : ℕ) (size : Sizes) (seen : Image)
         (report : Report) → IsState whole.loaded.state

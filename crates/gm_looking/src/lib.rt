@@ -6,15 +6,14 @@
 //! pending as JSON, and `comparing.rt` compares data.
 //! `checking.rt` looks at all of it at once, `checked.rt` tells what was found
 //! (`specs/Checks.antt`), and `laws.rt` what that says if all is well (`specs/AllWell.antt`).
-//! `flaws.rt` has the lines of data that differ. `blocked.rt` says what waits for an image that
-//! fails, and `strange.rt` which images no stop leaves as they are.
+//! `blocked.rt` says what waits for an image that fails, and `strange.rt` which images no stop leaves
+//! as they are.
 #![tactic(auto)]
 
 mod blocked;
 mod checked;
 mod checking;
 mod comparing;
-mod flaws;
 mod laws;
 mod pending;
 mod read_only;

@@ -56,6 +56,7 @@ fn heeds_use(work: &Work<'_>) -> bool {
         | Work::AdoptAll(checks) => checks.uses,
         Work::Command(single) => single.checks.uses,
         Work::Sync(filling) => filling.heeds_use,
+        Work::Renew(renewing) => renewing.heeds_use,
         _ => true,
     }
 }

@@ -13,6 +13,7 @@ use gm_faults::Fault;
 use gm_filling::fill_components;
 use gm_handing_in::{Lines, One, hand_in, hand_in_lines_of, hand_in_one, serve};
 use gm_looking::scrub;
+use gm_mending::mend;
 use gm_process::{Status, Streams};
 use gm_replacing::replace;
 use gm_reports::{Report, audit_report, list_report, status_report};
@@ -33,8 +34,8 @@ fn told(alloc: Global, status: Status) -> Report
 }
 
 /// Does the work. A batch reads the input, and prints its answers at once; what serves requests
-/// takes them from connections. A recovery without a provider is told by who opens its bench; here
-/// it tells no more than any.
+/// takes them from connections. A recovery without a provider and a renewal are told by who opens
+/// their bench; here they tell no more than any recovery.
 pub fn perform<S: Alter, H: Shelf, I: BufRead, O: Write, E: Write>(
     work: &Work<'_>,
     rt: &HostRuntime,
@@ -49,6 +50,7 @@ pub fn perform<S: Alter, H: Shelf, I: BufRead, O: Write, E: Write>(
         Work::Recover { form, .. } | Work::RecoverWithout { form, .. } => {
             Ok(recovered(alloc, bench.redone(), form)?)
         }
+        Work::Renew(renewing) => Ok(recovered(alloc, bench.redone(), renewing.form)?),
         Work::Status(form) => {
             let state = bench.view(alloc)?;
             Ok(status_report(alloc, &state, form)?)
@@ -87,6 +89,10 @@ pub fn perform<S: Alter, H: Shelf, I: BufRead, O: Write, E: Write>(
         }
         Work::Replace(ref replacing) => {
             let status = replace(rt, replacing, bench, streams)?;
+            Ok(told(alloc, status))
+        }
+        Work::Mend(ref mending) => {
+            let status = mend(rt, mending, bench, streams)?;
             Ok(told(alloc, status))
         }
         Work::Write(ref writing) => write_data(rt, writing, bench, streams),

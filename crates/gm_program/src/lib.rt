@@ -7,8 +7,8 @@
 //! the registry that `place.rt` opens and closes (`specs/Ends.antt` says how it ends), after
 //! `before_opening.rt` has looked at the images that pending writes name, by `gm_pending` and
 //! `gm_in_use`; `recover.rt` has the command `recover`. The other commands are in crates of their
-//! own: `gm_dump`, `gm_looking`, `gm_filling`, `gm_handing_in`, `gm_by_itself`, `gm_replacing` and
-//! `gm_writing`.
+//! own: `gm_dump`, `gm_looking`, `gm_filling`, `gm_handing_in`, `gm_by_itself`, `gm_replacing`,
+//! `gm_mending` and `gm_writing`.
 #![tactic(auto)]
 
 mod before_opening;

@@ -9,6 +9,7 @@ use gm_dump::dump;
 use gm_faults::{Fault, explain_fault};
 use gm_looking::{check_place, look_at, show_pending, show_pending_at, taste_folder};
 use gm_process::{Environment, Patience, Place, Status, Streams};
+use gm_recalling::show_history;
 use std::io::{BufRead, Write};
 
 // Prints what clap has to say of words, on the stream where it belongs, and a tip after a
@@ -33,12 +34,22 @@ fn print_error<O: Write, E: Write>(
     Ok(Status::Done)
 }
 
-// Whether work comes from words that somebody types, so that it is explained.
-fn is_typed(work: &Work<'_>) -> bool {
-    matches!(
-        *work,
-        Work::Do { .. } | Work::Command(_) | Work::AdoptAll(_) | Work::Replace(_) | Work::Write(_)
-    )
+// Whether work comes from words that somebody types, or that run at night, so that it is explained.
+fn is_explained(work: &Work<'_>) -> bool {
+    match *work {
+        Work::Do { .. } | Work::Command(_) | Work::AdoptAll(_) | Work::Replace(_) => true,
+        Work::Mend(_) | Work::Write(_) | Work::Sync(_) | Work::Scrub(_) | Work::Renew(_) => true,
+        _ => false,
+    }
+}
+
+// The same of any job.
+fn explains_itself(job: &Job<'_>) -> bool {
+    match job {
+        Job::Check { .. } | Job::Pending { .. } => true,
+        Job::AtBench { work, .. } => is_explained(work),
+        _ => false,
+    }
 }
 
 // Has work done at the bench of a place.
@@ -50,7 +61,6 @@ fn work_there<I: BufRead, O: Write, E: Write>(
     patience: Patience,
     streams: &mut Streams<'_, I, O, E>,
 ) -> Result<Status, Fault> {
-    streams.explaining.wanted |= is_typed(work);
     streams.explaining.folder = String::from_str(rt.alloc(), place.folder)?;
     let terms = Terms {
         makes: work.makes_registry() && !manner.existing,
@@ -66,7 +76,7 @@ fn perform<I: BufRead, O: Write, E: Write>(
     streams: &mut Streams<'_, I, O, E>,
 ) -> Result<Status, Fault> {
     let patience = Patience::begin(rt, asked.manner.wait);
-    streams.explaining.wanted |= asked.manner.explains;
+    streams.explaining.wanted |= asked.manner.explains || explains_itself(&asked.job);
     match asked.job {
         Job::Introduce => {
             writeln!(streams.output, "gmbench: GEOM_MIRROR version 4")?;
@@ -91,6 +101,10 @@ fn perform<I: BufRead, O: Write, E: Write>(
             folder: Some(folder),
             form,
         } => show_pending_at(rt, Place { registry, folder }, form, patience, streams),
+        Job::Recall {
+            ref recalling,
+            registry,
+        } => Ok(show_history(rt, registry, recalling, patience, streams)?),
         Job::LookAt {
             look,
             registry,

@@ -9,7 +9,7 @@ use crate::before_opening::{Care, make_ready};
 use crate::bench_command::perform;
 use crate::recover::{recovered_without, refused_without};
 use gm_bench::{Bench, BenchFault, OpenFault, Without};
-use gm_command_line::{Form, Work};
+use gm_command_line::{Form, Renewing, Work};
 use gm_faults::{Fault, explain_loss};
 use gm_looking::{complain_of_pending, way_on};
 use gm_metadata::Label;
@@ -19,11 +19,13 @@ use gm_registry_files::{
     Obstacle, StoreCause, is_there, leave_out_registry, obstacle_to_opening, open_store,
     store_cause,
 };
+use gm_renewing::renew;
 use gm_reports::Report;
-use gm_shelf::FileShelf;
+use gm_shelf::{FileId, FileShelf};
 use sqlite::{Alter, Connection, Error, ErrorCode, File, FileStore};
 use sqlite_disk::Disk;
 use std::alloc::Global;
+use std::fs;
 use std::io::{self, BufRead, Write};
 
 // Lets the media go over which no bench is opened, and hands on why. It is done here alone, since
@@ -279,7 +281,16 @@ pub struct Terms {
     pub patience: Patience,
 }
 
-// Opens a registry over files; one in use is tried again.
+// Which file has a path, if one has.
+fn file_at(rt: &HostRuntime, path: &str) -> Option<FileId> {
+    match fs::metadata(rt, path) {
+        Ok(found) => Some(FileId::of(&found)),
+        Err(_) => None,
+    }
+}
+
+// Opens a registry over files; one in use is tried again. If another file got its name meanwhile,
+// as a renewal gives it, what was opened may be the one that had it before, and is let go.
 fn open_patiently(
     rt: &HostRuntime,
     registry: &str,
@@ -287,7 +298,12 @@ fn open_patiently(
 ) -> Result<Connection<FileStore<File>>, Error> {
     let busy = Error::SqliteFailure(ErrorCode::DatabaseBusy);
     for _ in 0..u64::MAX {
-        match open_store(rt, registry) {
+        let before = file_at(rt, registry);
+        let opened = open_store(rt, registry);
+        if before.is_some() && before != file_at(rt, registry) {
+            continue;
+        }
+        match opened {
             Err(e) if e == busy && patience.pauses(rt) => {}
             opened => return opened,
         }
@@ -346,6 +362,28 @@ fn open_registry<I, O, E: Write>(
     }
 }
 
+// Carries out what is pending, and renews a registry that is open, over media that are made ready
+// before.
+fn renewed<I, O, E: Write>(
+    rt: &HostRuntime,
+    registry: &str,
+    renewing: Renewing,
+    mut store: Connection<FileStore<File>>,
+    mut shelf: FileShelf<HostRuntime>,
+    streams: &mut Streams<'_, I, O, E>,
+) -> Result<Report, Fault>
+    ensures { IfOk result (λ report. MayRefuse report.status) }
+{
+    let care = Care::of(&Work::Renew(renewing));
+    if let Err(fault) = make_ready(rt, &mut store, care, &mut shelf, streams) {
+        return unopened(store, shelf, fault);
+    }
+    if !store.is_autocommit() {
+        return unopened(store, shelf, Fault::Bench(BenchFault::Store));
+    }
+    renew(rt, registry, renewing, store, shelf, streams)
+}
+
 // Has the work done with a registry that is opened and closed again.
 fn report_of<I: BufRead, O: Write, E: Write>(
     rt: &HostRuntime,
@@ -359,7 +397,10 @@ fn report_of<I: BufRead, O: Write, E: Write>(
 {
     let store = open_registry(rt, registry, terms, streams)?;
     leave_out_registry(rt, registry, &mut shelf)?;
-    let done = at_files(rt, registry, store, shelf, work, streams);
+    let done = match *work {
+        Work::Renew(renewing) => renewed(rt, registry, renewing, store, shelf, streams),
+        _ => at_files(rt, registry, store, shelf, work, streams),
+    };
     if let Err(fault) = &done {
         heed_failure(rt, registry, fault, streams);
     }

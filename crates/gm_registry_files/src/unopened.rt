@@ -23,7 +23,7 @@ use std::io::{self, ErrorKind};
 // The two files of a registry, which stay open and locked as long as these are there. They fail if
 // there is a journal that holds anything: the registry is as it stands only once that is rolled
 // back.
-fn files_of(rt: &HostRuntime, registry: &str, key: u64) -> io::Result<Files<OverlayDisk>>
+pub(crate) fn files_of(rt: &HostRuntime, registry: &str, key: u64) -> io::Result<Files<OverlayDisk>>
     ensures log { IfOk result (λ files. IsTrue (⟦<OverlayDisk as Disk>⟧.is_usable files.log)) }
     ensures db { IfOk result (λ files. IsTrue (⟦<OverlayDisk as Disk>⟧.is_usable files.db)) }
 {

@@ -88,7 +88,7 @@ fn is_foreign(first: &[u8]) -> bool {
 }
 
 /// Whether a file is no registry, by its first bytes. One that can't be read may be one.
-pub(crate) fn is_no_database(rt: &HostRuntime, registry: &str) -> bool {
+pub fn is_no_database(rt: &HostRuntime, registry: &str) -> bool {
     let mut first = [0; 16];
     let Ok(count) = first_bytes(rt, registry, &mut first) else {
         return false;

@@ -5,7 +5,9 @@ ghost use Rattle.gm_bench.specs.Benches.{progress_of};
 
 use crate::commands::exchange_of;
 use crate::plan::Plan;
+use crate::sayings::push_ruined;
 use crate::stopped::Stopped;
+use crate::way::Going;
 use gm_bench::Bench;
 use gm_by_itself::following_key;
 use gm_command_line::{Checks, Form, Replacing};
@@ -13,11 +15,12 @@ use gm_faults::Fault;
 use gm_front::in_the_way;
 use gm_handing_in::{are_free, is_wanted, losses_told};
 use gm_lines::shown;
+use gm_looks::Standing;
 use gm_metadata::Label;
 use gm_process::Streams;
-use gm_shelf::Shelf;
+use gm_shelf::{FileShelf, Shelf};
 use gm_state::State;
-use gm_ways::{Exchange, Step, Way, first_command};
+use gm_ways::{Exchange, Step, Way, first_command, gives_up_first};
 use sqlite::Alter;
 use std::alloc::{AllocError, Global};
 use std::io::{BufRead, Write};
@@ -92,16 +95,55 @@ fn push_way(
     Ok(())
 }
 
+// How many sectors the image has that is taken out.
+fn old_sectors<I, O, E>(
+    rt: &HostRuntime,
+    old: Label,
+    streams: &mut Streams<'_, I, O, E>,
+) -> Result<u64, Fault> {
+    let shelf = FileShelf::look_at(rt, streams.explaining.folder.as_str(), &[old])?;
+    Ok(shelf.sectors(old).unwrap_or(0))
+}
+
+// Adds that the old image is given up first though it is there, and why.
+fn push_given_up<I, O, E>(
+    rt: &HostRuntime,
+    exchange: &Exchange,
+    going: Going,
+    plan: &Plan,
+    sentences: &mut Vec<String>,
+    streams: &mut Streams<'_, I, O, E>,
+) -> Result<(), Fault> {
+    let standing = match going.old {
+        Some(standing) if going.way == Way::LostFirst && gives_up_first(&plan.steps) => standing,
+        _ => return Ok(()),
+    };
+    if standing == Standing::Absent {
+        return Ok(());
+    }
+    let old = exchange.old;
+    let registered = match plan.judged.found.first() {
+        Some(state) => state.component(old),
+        None => None,
+    };
+    if let Some(component) = registered {
+        let sectors = old_sectors(rt, old, streams)?;
+        push_ruined(rt.alloc(), &component, standing, sectors, sentences)?;
+    }
+    Ok(())
+}
+
 // What the steps would take away, in a sentence each.
 fn sentences_of<I, O, E: Write>(
     rt: &HostRuntime,
     exchange: &Exchange,
-    way: Way,
+    going: Going,
     plan: &Plan,
     streams: &mut Streams<'_, I, O, E>,
 ) -> Result<Vec<String>, Fault> {
     let mut sentences = Vec::new(rt.alloc());
-    push_way(rt.alloc(), exchange, way, &mut sentences)?;
+    push_way(rt.alloc(), exchange, going.way, &mut sentences)?;
+    push_given_up(rt, exchange, going, plan, &mut sentences, streams)?;
     for (step, state) in plan.steps.iter().zip(plan.judged.found.iter()) {
         push_step(
             rt,
@@ -168,7 +210,7 @@ pub(crate) fn checks_left<S: Alter, H: Shelf, I: BufRead, O: Write, E: Write>(
     rt: &HostRuntime,
     replacing: &Replacing<'_>,
     first: &str,
-    way: Way,
+    going: Going,
     plan: &Plan,
     bench: &mut Bench<S, H>,
     streams: &mut Streams<'_, I, O, E>,
@@ -187,7 +229,7 @@ pub(crate) fn checks_left<S: Alter, H: Shelf, I: BufRead, O: Write, E: Write>(
     if !has_free_images(rt, &exchange, first, plan, streams)? {
         return Ok(None);
     }
-    let sentences = sentences_of(rt, &exchange, way, plan, streams)?;
+    let sentences = sentences_of(rt, &exchange, going, plan, streams)?;
     if !is_agreed(alloc, first, &sentences, streams)? {
         return Ok(None);
     }

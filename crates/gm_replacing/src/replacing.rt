@@ -212,7 +212,7 @@ fn replace_under<S: Alter, H: Shelf, I: BufRead, O: Write, E: Write>(
         refuse_at(rt, replacing, first, &plan, stop, bench, streams)?;
     }
     need_room(alloc, first, plan.judged.commands, bench, streams)?;
-    let Some(checks) = checks_left(rt, replacing, first, going.way, &plan, bench, streams)? else {
+    let Some(checks) = checks_left(rt, replacing, first, going, &plan, bench, streams)? else {
         return Err(Stopped::Refused);
     };
     if going.way == Way::RemoveFirst && gives_up_first(&plan.steps) {

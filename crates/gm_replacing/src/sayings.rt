@@ -10,10 +10,11 @@ use gm_by_itself::following_key;
 use gm_command_line::Replacing;
 use gm_front::Outcome;
 use gm_lines::shown;
+use gm_looks::Standing;
 use gm_process::Streams;
 use gm_refusals::CallRefusal;
 use gm_reports::{no_component, no_mirror, refused};
-use gm_state::{MAX_COMPONENTS, State};
+use gm_state::{Component, MAX_COMPONENTS, State};
 use gm_ways::Act;
 use std::alloc::{AllocError, Global};
 use std::io::{self, Write};
@@ -143,4 +144,43 @@ pub(crate) fn say_removed_first<E: Write>(complaints: &mut E, replacing: &Replac
         complaints,
         "{mirror} has {MAX_COMPONENTS} components, the most: {old} is removed first"
     );
+}
+
+// In which state an image is that is given up though it is there: it has so many sectors.
+fn ruin_of(
+    alloc: Global,
+    component: &Component,
+    standing: Standing,
+    sectors: u64,
+) -> Result<String, AllocError> {
+    let old = component.provider;
+    let bytes = sectors.saturating_mul(512);
+    let registered = u64::from(component.sectors).saturating_mul(512);
+    match standing {
+        Standing::AnotherSize => {
+            format!(in alloc; "{old} is {bytes} bytes long, and not {registered}")
+        }
+        Standing::Damaged => format!(in alloc; "{old} has damaged metadata in its last sector"),
+        _ => format!(in alloc; "{old} has no metadata in its last sector"),
+    }
+}
+
+/// Adds that the image of a component is given up as lost though it is there, and why; and, unless
+/// it has another size, how its last sector is written again instead.
+pub(crate) fn push_ruined(
+    alloc: Global,
+    component: &Component,
+    standing: Standing,
+    sectors: u64,
+    sentences: &mut Vec<String>,
+) -> Result<(), AllocError> {
+    let ruin = ruin_of(alloc, component, standing, sectors)?;
+    sentences.push(format!(in alloc; "{ruin}: it is given up as lost")?)?;
+    if standing != Standing::AnotherSize {
+        let old = component.provider;
+        sentences.push(format!(in alloc;
+            "mend {old} writes that sector again, if the data are right"
+        )?)?;
+    }
+    Ok(())
 }

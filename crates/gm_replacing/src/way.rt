@@ -1,7 +1,9 @@
 //! In which order an image takes another one's place, by the registry and the images.
 
-ghost use Rattle.std.specs.Prelude.{◌≡◌, OnOk};
+ghost use Rattle.std.specs.Prelude.{◌≡◌, OnOk, find};
+ghost use Rattle.gm_metadata.specs.Images.{same_label};
 ghost use Rattle.gm_bench.specs.Benches.{progress_of};
+ghost use Rattle.gm_replacing.specs.OldImages.{old_image_by, standing_among};
 
 use crate::commands::exchange_of;
 use crate::filled::is_active_in;
@@ -16,7 +18,7 @@ use gm_metadata::Label;
 use gm_process::Streams;
 use gm_shelf::Shelf;
 use gm_state::State;
-use gm_ways::{Act, Way, is_member, way_begun, way_by};
+use gm_ways::{Act, OldImage, Way, is_member, way_begun, way_by};
 use sqlite::Alter;
 use std::alloc::Global;
 use std::io::Write;
@@ -26,20 +28,34 @@ use std::io::Write;
 pub(crate) struct Going {
     pub(crate) way: Way,
     pub(crate) is_begun: bool,
+    /// How the old image stands, if the way goes by that and it isn't as it is registered.
+    pub(crate) old: Option<Standing>,
 }
 
-// Whether the image is among these that aren't as they are registered, because it is gone.
-fn is_absent(unlike: &[Unlike], image: Label) -> bool {
-    unlike.iter().any(|it| it.provider == image && it.standing == Standing::Absent)
+// An image, if it is among these.
+fn found_among(unlike: &[Unlike], image: Label) -> Option<Unlike>
+    ensures { result ≡ find (λ e. same_label e.provider image) unlike.now }
+{
+    unlike.iter().copied().find(|it| it.provider == image)
 }
 
-// Whether the image of a component isn't there.
-fn is_gone<S: Alter, H: Shelf>(
+// How an image stands, if it is among these that aren't as they are registered.
+fn standing_among(unlike: &[Unlike], image: Label) -> Option<Standing>
+    ensures { result ≡ standing_among unlike.now image }
+{
+    match found_among(unlike, image) {
+        Some(found) => Some(found.standing),
+        None => None,
+    }
+}
+
+// How the image of a component stands, if it isn't as it is registered.
+fn standing_of<S: Alter, H: Shelf>(
     alloc: Global,
     bench: &mut Bench<S, H>,
     mirror: Label,
     image: Label,
-) -> Result<bool, BenchFault>
+) -> Result<Option<Standing>, BenchFault>
     ensures { OnOk result (progress_of bench.new ≡ progress_of bench.old) }
 {
     let remove = Command::Remove {
@@ -47,7 +63,19 @@ fn is_gone<S: Alter, H: Shelf>(
         provider: image,
     };
     let unlike = bench.unlike(alloc, &remove)?;
-    Ok(is_absent(&unlike, image))
+    Ok(standing_among(&unlike, image))
+}
+
+// What is seen of the image that is taken out, by how it stands if it isn't as it is registered.
+fn old_image_by(standing: Option<Standing>) -> OldImage
+    ensures { result ≡ old_image_by standing }
+{
+    match standing {
+        Some(Standing::Absent) => OldImage::Gone,
+        Some(Standing::AnotherSize | Standing::Zero | Standing::NoMetadata | Standing::Damaged) =>
+            OldImage::Ruined,
+        _ => OldImage::There,
+    }
 }
 
 // The way that is to be gone, as the mirror and the images are now; `None` if neither the old one
@@ -57,17 +85,24 @@ fn way_now<S: Alter, H: Shelf>(
     bench: &mut Bench<S, H>,
     state: &State,
     replacing: &Replacing<'_>,
-) -> Result<Option<Way>, BenchFault>
+) -> Result<Option<Going>, BenchFault>
     ensures { OnOk result (progress_of bench.new ≡ progress_of bench.old) }
 {
     let mirror = replacing.mirror;
     let has_new = is_member(state, mirror, replacing.new);
-    let gone = if is_member(state, mirror, replacing.old) && !has_new {
-        is_gone(alloc, bench, mirror, replacing.old)?
+    let old = if is_member(state, mirror, replacing.old) && !has_new {
+        standing_of(alloc, bench, mirror, replacing.old)?
     } else {
-        false
+        None
     };
-    Ok(way_by(state, &exchange_of(replacing), gone))
+    match way_by(state, &exchange_of(replacing), old_image_by(old)) {
+        Some(way) => Ok(Some(Going {
+            way,
+            is_begun: false,
+            old,
+        })),
+        None => Ok(None),
+    }
 }
 
 // Whether the old image was removed under the second key: that ends a replacement by a new one that
@@ -103,6 +138,7 @@ fn way_without_old<S: Alter, H: Shelf, I, O: Write, E: Write>(
         return Ok(Going {
             way: Way::Inserted,
             is_begun: true,
+            old: None,
         });
     }
     if is_active_in(state, replacing.new) {
@@ -116,6 +152,7 @@ fn way_without_old<S: Alter, H: Shelf, I, O: Write, E: Write>(
     Ok(Going {
         way: Way::OnlyFill,
         is_begun: false,
+        old: None,
     })
 }
 
@@ -134,15 +171,15 @@ pub(crate) fn way_of<S: Alter, H: Shelf, I, O: Write, E: Write>(
         return Ok(Going {
             way: way_begun(kept.words.as_str()),
             is_begun: true,
+            old: None,
         });
     }
     let state = bench.view(alloc)?;
     match way_now(alloc, bench, &state, replacing)? {
-        Some(Way::OnlyFill) => { way_without_old(alloc, replacing, first, &state, bench, streams) }
-        Some(way) => Ok(Going {
-            way,
-            is_begun: false,
-        }),
+        Some(going) if going.way == Way::OnlyFill => {
+            way_without_old(alloc, replacing, first, &state, bench, streams)
+        }
+        Some(going) => Ok(going),
         None => {
             say_nothing_there(alloc, replacing, &state, streams)?;
             Err(Stopped::Refused)

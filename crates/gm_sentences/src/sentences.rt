@@ -44,7 +44,8 @@ pub fn call_sentence(why: CallRefusal) -> &'static str {
     match why {
         CallRefusal::NoKey => "a key is 1 to 32 of A-Z, a-z, 0-9, '.', '_' and '-'",
         CallRefusal::KeyTaken => "the key was accepted for another command",
-        CallRefusal::NoRoom => "100,000 commands were accepted, and no more can be",
+        CallRefusal::NoRoom =>
+            "100,000 commands were accepted, and no more can be: renew the registry",
         CallRefusal::ByRules(refusal) => refusal_sentence(refusal),
     }
 }

@@ -1,0 +1,4 @@
+pub mod EqualImages
+pub mod Grouped
+pub mod Registered
+pub mod ToldBeside

@@ -1,2 +1,5 @@
 pub mod Checkups
+pub mod Claims
+pub mod Flaws
 pub mod Texts
+pub mod Unequals

@@ -16,6 +16,8 @@ use Rattle.gm_ways.specs.declared.step.Act.TheVariants.{Insert, Remove, Lost, Fo
 use Rattle.gm_ways.specs.declared.step.Exchange.{Exchange}
 use Rattle.gm_ways.specs.declared.step.Step.{Step}
 use Rattle.gm_ways.specs.declared.step.Step.TheVariants.{HandIn, Fill}
+use Rattle.gm_ways.specs.declared.way.OldImage.{OldImage}
+use Rattle.gm_ways.specs.declared.way.OldImage.TheVariants.{There, Ruined, Gone}
 use Rattle.gm_ways.specs.declared.way.Way.{Way}
 use Rattle.gm_ways.specs.declared.way.Way.TheVariants.{InsertFirst, LostFirst, RemoveFirst, Inserted, Filled, OnlyFill}
 
@@ -83,6 +85,12 @@ must_make_room s mirror old =
     option_map_or (λ m. m.all == 16 && another_stays s.components mirror old) (mirror_of s mirror)
     false
 
+-- the old one is given up: its image is gone, or it is ruined and another one is ACTIVE
+abbrev pub is_given_up : Records → Exchange → OldImage → Bool
+is_given_up s e There = false
+is_given_up s e Ruined = another_stays s.components e.mirror e.old
+is_given_up s e Gone = true
+
 -- the new one is in the mirror: it is ACTIVE, or not
 abbrev pub way_of_new : Option ComponentState → Way
 way_of_new (Some Active) = Filled
@@ -92,11 +100,11 @@ way_of_new (Some Inactive) = Inserted
 way_of_new None = Inserted
 
 -- the way of the two images, if one of them is in the mirror
-abbrev pub way_by : Records → Exchange → Bool → Option Way
-way_by s e gone =
+abbrev pub way_by : Records → Exchange → OldImage → Option Way
+way_by s e image =
     if is_member s e.mirror e.old
     then Some (if is_member s e.mirror e.new
     then way_of_new (component_state s e.new)
-    else (if gone then LostFirst
+    else (if is_given_up s e image then LostFirst
     else (if must_make_room s e.mirror e.old then RemoveFirst else InsertFirst)))
     else (if is_member s e.mirror e.new then Some OnlyFill else None)

@@ -17,5 +17,6 @@ pub use judging::{Judged, Stop, judge, stop_of};
 pub use shown::{facts_of, names_of};
 pub use step::{Act, Exchange, Step};
 pub use way::{
-    Way, first_command, gives_up_first, is_member, removes_only_what_is_filled, way_begun, way_by,
+    OldImage, Way, first_command, gives_up_first, is_member, removes_only_what_is_filled,
+    way_begun, way_by,
 };

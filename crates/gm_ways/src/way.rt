@@ -5,11 +5,22 @@ ghost use Rattle.std.specs.List.{list_any};
 ghost use Rattle.gm_metadata.specs.Images.{same_label};
 ghost use Rattle.gm_state.specs.Lookups.{is_active};
 ghost use Rattle.gm_state.specs.Records.{members};
-ghost use Rattle.gm_ways.specs.Ways.{another_stays, first_command, gives_up_first, is_member, must_make_room, removes_filled, steps_of, way_by};
+ghost use Rattle.gm_ways.specs.Ways.{another_stays, first_command, gives_up_first, is_given_up, is_member, must_make_room, removes_filled, steps_of, way_by};
 
 use crate::step::{Act, Exchange, Step};
 use gm_metadata::Label;
 use gm_state::{Component, ComponentState, MAX_COMPONENTS, State, component_state};
+
+/// What is seen of the image that is taken out.
+#[derive(Clone, Copy, Debug, PartialEq, Eq)]
+pub enum OldImage {
+    /// It is there, and its last sector says something.
+    There,
+    /// It is there, but in another size than is registered, or its last sector says nothing.
+    Ruined,
+    /// It isn't there.
+    Gone,
+}
 
 /// In which order an image takes another one's place. The new one is always filled before the old
 /// one is removed, but if that can't be.
@@ -17,8 +28,8 @@ use gm_state::{Component, ComponentState, MAX_COMPONENTS, State, component_state
 pub enum Way {
     /// The new one is inserted and filled, and the old one is removed.
     InsertFirst,
-    /// The old one's image is gone: it is given up and forgotten, and the new one is inserted and
-    /// filled.
+    /// The old one's image is gone or ruined: it is given up and forgotten, and the new one is
+    /// inserted and filled.
     LostFirst,
     /// The mirror has no room for both: the old one is removed, and the new one is inserted and
     /// filled.
@@ -157,10 +168,21 @@ fn must_make_room(state: &State, mirror: Label, old: Label) -> bool
     }
 }
 
-/// The way that is to be gone, by the records, and by whether the old one's image is gone; `None`
+// Whether the old one is given up: its image is gone, or it is ruined and another one is ACTIVE.
+fn is_given_up(state: &State, exchange: &Exchange, image: OldImage) -> bool
+    ensures { result ≡ is_given_up state.now exchange.now image }
+{
+    match image {
+        OldImage::There => false,
+        OldImage::Ruined => another_stays(state.components(), exchange.mirror, exchange.old),
+        OldImage::Gone => true,
+    }
+}
+
+/// The way that is to be gone, by the records, and by what is seen of the old one's image; `None`
 /// if neither the old one nor the new one is in the mirror.
-pub fn way_by(state: &State, exchange: &Exchange, is_gone: bool) -> Option<Way>
-    ensures { result ≡ way_by state.now exchange.now is_gone }
+pub fn way_by(state: &State, exchange: &Exchange, image: OldImage) -> Option<Way>
+    ensures { result ≡ way_by state.now exchange.now image }
 {
     let Exchange { mirror, old, new } = *exchange;
     let has_old = is_member(state, mirror, old);
@@ -172,7 +194,7 @@ pub fn way_by(state: &State, exchange: &Exchange, is_gone: bool) -> Option<Way>
             Some(ComponentState::Active) => Some(Way::Filled),
             _ => Some(Way::Inserted),
         },
-        (true, false) if is_gone => Some(Way::LostFirst),
+        (true, false) if is_given_up(state, exchange, image) => Some(Way::LostFirst),
         (true, false) if must_make_room(state, mirror, old) => Some(Way::RemoveFirst),
         (true, false) => Some(Way::InsertFirst),
     }

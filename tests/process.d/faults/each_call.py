@@ -1,11 +1,11 @@
-"""Each call on a file of `sync`, `replace`, `write`, `scrub`, `check`, `pending`, `taste` and looks with --read-only, which
-fails once.
+"""Each call on a file of `sync`, `replace`, `mend`, `write`, `scrub`, `check`, `pending`, `log`, `taste` and looks with --read-only,
+which fails once.
 
     each_call.py PROGRAM PRELOADED FOLDER
 
 A run whose call fails ends with a fault, or does all of its work. What only looks changes nothing, or, if it recovers
-first, no more than that does. After a `sync`, a `replace` or a `write` that failed the same words make of the images what they
-make if nothing fails. Lines that repeat a command make no call on an image.
+first, no more than that does. After a `sync`, a `replace`, a `mend` or a `write` that failed the same words make of the images
+what they make if nothing fails. Lines that repeat a command make no call on an image.
 """
 
 import sys
@@ -16,12 +16,13 @@ program, preloaded, work = sys.argv[1:4]
 place = Bench(program, work)
 SECTORS = 301
 TASTE = ["taste"]
+LOG = ["log"]
 FAULTS = ["gmbench: F2 store\n", "gmbench: F3 disk\n", "gmbench: input or output\n"]
 wrong = []
 
 
 def run(words, lines=b"", **more):
-    return place.run(words, lines, registry=words != TASTE, LD_PRELOAD=preloaded, **more)
+    return place.run(words, lines, shelf=words != LOG, registry=words != TASTE, LD_PRELOAD=preloaded, **more)
 
 
 def images_of(found):
@@ -113,6 +114,19 @@ def is_done_again(words):
     return behind
 
 
+def is_mended_again(words):
+    """What is pending is carried out, though the image isn't what a stop leaves, and the same words do the rest."""
+    again = is_done_again(words)
+
+    def behind(title, whole):
+        status, _, complaint = run(["recover", "--unchecked"])
+        if status != 0:
+            wrong.append(f"{title}: a recovery ends with {status}, {complaint!r}")
+        again(title, whole)
+
+    return behind
+
+
 def asks_no_image(begins_with, rows):
     """Lines are answered so, though the first call on an image would fail, and change nothing."""
     place.put_back(begins_with)
@@ -148,7 +162,7 @@ for nth in range(1, 40):
         break
 place.keep("stopped")
 assert run(["pending"])[1] != "", "nothing is pending"
-LOOKS = (["pending"], TASTE, ["status", "--read-only"], ["list", "--read-only"], ["audit", "--read-only"], ["check", "--data", "--quiet"])
+LOOKS = (["pending"], LOG, TASTE, ["status", "--read-only"], ["list", "--read-only"], ["audit", "--read-only"], ["check", "--data", "--quiet"])
 for look in LOOKS:
     try_each(" ".join(look), look, "stopped", is_as_kept("stopped"))
 try_each("scrub", ["scrub", "--quiet"], "made", images_stay)
@@ -168,3 +182,10 @@ run(["sync", "--quiet"])
 place.keep("filled")
 WRITE = ["write", "--quiet", "--key", "w", "--first", "3", "--file", place.folder + "/loader.bin", "gm0"]
 try_each("write", WRITE, "filled", is_done_again(WRITE))
+place.put_back("filled")
+with open(place.images + "/b.img", "r+b") as file:
+    file.seek((SECTORS - 1) * 512)
+    file.write(b"X")
+place.keep("spoiled")
+MEND = ["mend", "--quiet", "--key", "m", "b.img"]
+try_each("mend", MEND, "spoiled", is_mended_again(MEND))

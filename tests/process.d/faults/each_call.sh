@@ -1,4 +1,4 @@
-# Each call on a file fails in turn: sync, replace, write, scrub, check, pending, and what is to write nothing.
+# Each call on a file fails in turn: sync, replace, write, scrub, check, pending, log, and what is to write nothing.
 . "$helpers/bench.sh"
 . "$helpers/python.sh"
 

@@ -43,15 +43,16 @@ for command in insert remove deactivate activate forget rebuild configure clear 
     expect "do with $command makes none" 3 '' "$said"
     expect_none "do with $command leaves none" "$registry"
 done
-for command in sync scrub check pending; do
+for command in sync scrub check pending renew; do
     at_bench $command
-    expect "$command makes none" 3 '' "$fault"
-    at_bench $command --explain
-    expect "$command says why" 3 '' "$said"
+    expect "$command makes none, and says why by itself" 3 '' "$said"
     expect_none "$command leaves none" "$registry"
 done
-run pending --registry "$registry" --explain
-expect 'pending without a folder says why' 3 '' "$said"
+for command in pending log; do
+    run $command --registry "$registry" --explain
+    expect "$command without a folder says why" 3 '' "$said"
+    expect_none "$command leaves none" "$registry"
+done
 for command in status list audit; do
     at_bench $command --read-only --explain
     expect "$command with --read-only says why" 3 '' "$said"

@@ -9,23 +9,28 @@ keep_none() {
     expect_none "$1" "$registry"
     expect_none "$1, nor a log" "$registry-wal"
 }
+# What a pending complains of.
+of_store() {
+    echo "gmbench: F2 store
+F2: $1"
+}
 at_bench pending
-expect 'a registry that is not there' 3 '' 'gmbench: F2 store'
+expect 'a registry that is not there' 3 '' "$(of_store "there is no registry at $registry")"
 keep_none 'none is made'
 at_bench status --read-only
 expect 'a status of one that is not there' 3 '' 'gmbench: F2 store'
 keep_none 'none is made for it'
 : >"$registry"
 run pending --registry "$registry"
-expect 'an empty file' 3 '' 'gmbench: F2 store'
+expect 'an empty file' 3 '' "$(of_store "$registry holds no registry: it is empty, or its making was stopped")"
 expect_none 'nothing is put beside it' "$registry-wal"
 printf 'no registry, but text\n' >"$registry"
 run pending --registry "$registry"
-expect 'a file that is no registry' 3 '' 'gmbench: F2 store'
+expect 'a file that is no registry' 3 '' "$(of_store "$registry isn't a registry: no database begins as it does")"
 rm "$registry"
 mkdir "$registry"
 run pending --registry "$registry"
-expect 'a folder in its place' 3 '' 'gmbench: F2 store'
+expect 'a folder in its place' 3 '' "$(of_store "$registry isn't a regular file")"
 rmdir "$registry"
 
 stopped_remove behind
@@ -113,7 +118,7 @@ fi
 stopped_remove held
 printf 'x' >"$registry-journal"
 at_bench pending
-expect 'a journal that holds something' 3 '' 'gmbench: F2 store'
+expect 'a journal that holds something' 3 '' "$(of_store "$registry has a rollback journal: open it with sqlite3 first")"
 : >"$registry-journal"
 run pending --registry "$registry"
 expect 'an empty one' 0 "$(lines 'clear b.img\nmetadata of a.img')" ''
@@ -125,7 +130,8 @@ if command -v flock >/dev/null; then
     (
         flock -x 9
         at_bench pending
-        expect 'a folder that is held' 3 '' "$broken"
+        expect 'a folder that is held' 3 '' "$broken
+input or output: another gmbench holds the folder $bench/images"
         run pending --registry "$registry"
         expect 'without it the registry is shown' 0 "$(lines 'clear b.img\nmetadata of a.img')" ''
         echo "$passed $failed" >"$work/counted"
@@ -154,7 +160,7 @@ END
         [ -e "$registry.held" ] || sleep 0.5
     done
     run pending --registry "$registry"
-    expect 'a registry that another program has open' 3 '' 'gmbench: F2 store'
+    expect 'a registry that another program has open' 3 '' "$(of_store "another program has $registry open")"
     kill "$holder" 2>/dev/null
     wait "$holder" 2>/dev/null
     rm -f "$registry.held"

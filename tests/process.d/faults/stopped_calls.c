@@ -1,6 +1,7 @@
-/* What a test preloads into the program. STOP=N fails the Nth write, sync or cut of a file whose path begins with STOPPED, and
-   each later one, or ends the process there by a signal, if KILL is set. COUNT names a file to which the number of these calls
-   is written at the end. Those that don't fail act, but no sync waits, so that many runs take little time. */
+/* What a test preloads into the program. STOP=N fails the Nth call that changes a file whose path begins with STOPPED, and each
+   later one, or ends the process there by a signal, if KILL is set: a write, sync or cut, a new name, another mode or owner, a
+   removal. COUNT names a file to which the number of these calls is written at the end. Those that don't fail act, but no sync
+   waits, so that many runs take little time. */
 #define _GNU_SOURCE
 #include <dlfcn.h>
 #include <errno.h>
@@ -9,22 +10,17 @@
 #include <stdio.h>
 #include <stdlib.h>
 #include <string.h>
+#include <sys/stat.h>
 #include <sys/types.h>
 #include <unistd.h>
 
 static long calls;
 
-/* Whether a call on this file is one that fails. */
-static int is_stopped(int descriptor)
+/* Whether a call on the file of this path is one that fails. */
+static int is_stopped_at(const char *path)
 {
-    char link[64], path[4096];
     char *begins = getenv("STOPPED"), *first = getenv("STOP");
-    snprintf(link, sizeof link, "/proc/self/fd/%d", descriptor);
-    ssize_t length = readlink(link, path, sizeof path - 1);
-    if (!begins || length < 0)
-        return 0;
-    path[length] = 0;
-    if (strncmp(path, begins, strlen(begins)) != 0)
+    if (!begins || strncmp(path, begins, strlen(begins)) != 0)
         return 0;
     calls++;
     if (!first || calls < atol(first))
@@ -33,6 +29,18 @@ static int is_stopped(int descriptor)
         raise(SIGKILL);
     errno = EIO;
     return 1;
+}
+
+/* Whether a call on this file is one that fails. */
+static int is_stopped(int descriptor)
+{
+    char link[64], path[4096];
+    snprintf(link, sizeof link, "/proc/self/fd/%d", descriptor);
+    ssize_t length = readlink(link, path, sizeof path - 1);
+    if (length < 0)
+        return 0;
+    path[length] = 0;
+    return is_stopped_at(path);
 }
 
 ssize_t write(int descriptor, const void *bytes, size_t count)
@@ -71,6 +79,30 @@ int fdatasync(int descriptor)
 int fsync(int descriptor)
 {
     return is_stopped(descriptor) ? -1 : 0;
+}
+
+int fchmod(int descriptor, mode_t mode)
+{
+    int (*next)(int, mode_t) = dlsym(RTLD_NEXT, "fchmod");
+    return is_stopped(descriptor) ? -1 : next(descriptor, mode);
+}
+
+int fchown(int descriptor, uid_t owner, gid_t group)
+{
+    int (*next)(int, uid_t, gid_t) = dlsym(RTLD_NEXT, "fchown");
+    return is_stopped(descriptor) ? -1 : next(descriptor, owner, group);
+}
+
+int rename(const char *from, const char *to)
+{
+    int (*next)(const char *, const char *) = dlsym(RTLD_NEXT, "rename");
+    return is_stopped_at(from) ? -1 : next(from, to);
+}
+
+int unlink(const char *path)
+{
+    int (*next)(const char *) = dlsym(RTLD_NEXT, "unlink");
+    return is_stopped_at(path) ? -1 : next(path);
 }
 
 __attribute__((destructor)) static void end(void)

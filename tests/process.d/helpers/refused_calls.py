@@ -5,6 +5,8 @@ import random
 
 # What is complained of wherever memory is wanting: neither the store nor the streams make another fault of it.
 MEMORY = "gmbench: F1 memory\n"
+# What some commands say after it, if there is memory for that.
+SENTENCE = "F1: the system gave no more memory\n"
 
 
 def shown(ended):
@@ -16,7 +18,7 @@ def shown(ended):
 def lines_before_fault(ended, lines, complained=""):
     """How many of these lines a run printed before want of memory ended it; None if it ended otherwise. The next line may be
     the fault's own."""
-    if ended[0] != 3 or ended[2] not in (MEMORY, complained + MEMORY):
+    if ended[0] != 3 or ended[2].removesuffix(SENTENCE) not in (MEMORY, complained + MEMORY):
         return None
     for count in range(len(lines) + 1):
         before = "".join(f"{line}\n" for line in lines[:count])

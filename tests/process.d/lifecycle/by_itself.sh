@@ -16,9 +16,9 @@ expect 'its key is made from the number of commands' 1 "$(lines 'k9 refused 22\n
 at_bench sync
 expect 'where nothing is left it says so' 0 "$(lines 'gm0 a.img ACTIVE\ngm0 b.img ACTIVE')" ''
 at_bench sync gm1
-expect 'a mirror that is not there' 1 'refused 5' ''
+expect 'a mirror that is not there' 1 'refused 5' 'refused 5: no mirror is named gm1'
 at_bench sync gm0 c.img
-expect 'a component that is not there' 1 'refused 12' ''
+expect 'a component that is not there' 1 'refused 12' "refused 12: c.img isn't a component of gm0, or is named twice"
 at_bench sync gm0 a.img
 expect 'one component alone' 0 'gm0 a.img ACTIVE' ''
 at_bench sync a/b
@@ -92,16 +92,28 @@ expect 'behind a rebuild it is filled' 0 "$(lines 'gm0 a.img ACTIVE\ngm0 b.img A
 
 # ---- a registry that is nearly full
 
+# What is said if a sync takes more commands than the registry.
+room_for() {
+    echo "this takes $1 commands, and the registry takes $2 more: renew it first"
+}
+
 fresh_bench full
 put_long_image "$bench/images/a.img" x
 put_long_image "$bench/images/b.img" y
 batch "$label$insert"
 if command -v sqlite3 >/dev/null; then
     put_accepted 2 99999
+    keep_bench
     at_bench sync
-    expect 'it is said before that the room may not do' 1 'refused 4' 'this takes 2 commands, and the registry takes 1 more'
-    at_bench status
-    expect 'what was filled stays so' 0 "$(whole_lines "$of_two" | sed 's/0 of 3/256 of 257/')" ''
+    expect 'nothing is filled if that takes more commands than are left' 1 'refused 4' "$(room_for 2 1)"
+    expect_kept 'nothing is written then'
+    at_bench sync --json
+    expect 'the same as JSON' 1 '{"answer":"refused","number":4}' "$(room_for 2 1)"
+    put_back
+    sqlite3 "$registry" 'DELETE FROM commands WHERE seq = 99999'
+    at_bench sync --quiet
+    expect 'it is filled if just so many are left' 0 "$(lines 'gm0 a.img ACTIVE\ngm0 b.img ACTIVE')" \
+        'the registry has 99998 of 100000 commands: renew it soon'
     # What is passed over is told also if an advance of another mirror is refused.
     fresh_bench full_beside
     put_image "$bench/images/c.img" c bare
@@ -109,18 +121,18 @@ if command -v sqlite3 >/dev/null; then
     damage "$bench/images/c.img" 1600 x
     put_accepted 3 100000
     at_bench sync
-    expect 'a refusal beside a mirror that is passed over' 1 "$(lines 'c.img\nrefused 4')" "this takes 1 commands, and the registry takes 0 more
-gm1 $passed_over"
-    # Twelve stretches are asked for together, and there is room for ten.
+    expect 'the commands of a mirror that would be passed over count too' 1 'refused 4' "$(room_for 1 0)"
+    # Ten stretches are handed in together, and there is room for just ten.
     fresh_bench ten_more
     for one in a b; do
-        head -c 1535488 /dev/urandom >"$bench/images/$one.img"
+        head -c 1310720 /dev/urandom >"$bench/images/$one.img"
         head -c 512 /dev/zero >>"$bench/images/$one.img"
     done
     batch "$label$insert"
     put_accepted 2 99990
-    at_bench sync
-    expect 'a series ends with the greatest number' 1 'refused 4' 'this takes 12 commands, and the registry takes 10 more'
+    at_bench sync --quiet
+    expect 'a series takes the greatest number' 0 "$(lines 'gm0 a.img ACTIVE\ngm0 b.img ACTIVE')" \
+        'the registry has 99990 of 100000 commands: renew it soon'
     expect_same_data 'it copied ten stretches' "$bench/images/a.img" "$bench/images/b.img" 1310720
     batch 'sync-100000 advance gm0 b.img\nsync-100001 advance gm0 b.img\n'
     expect 'the last of them has its own answer' 1 "$(lines 'sync-100000 repeated 100000\nsync-100001 refused 4')" ''

@@ -5,7 +5,7 @@
 # ---- images that aren't as they are registered stand in the way of a command of their mirror
 
 all_the_same='--unchecked carries it out all the same'
-overwritten='is another file or was overwritten: bring the right one back, or give it up by lost'
+overwritten='is another file or was overwritten: bring the right one back, mend it, replace it, or give it up by lost'
 
 # A bench whose mirror gm0 has a.img and b.img, both ACTIVE, beside blank images c.img and d.img.
 fresh_mirror() {
@@ -56,7 +56,7 @@ keep_bench
 at_bench do k9 configure --slice 512 gm0
 expect_not_done 'each image is named' k9 "$(lines 'a.img absent\nb.img another size')" \
     "k9: a.img isn't in the folder: bring it back, or give it up by lost
-k9: b.img hasn't the size that is registered: bring the right one back, or give it up by lost
+k9: b.img hasn't the size that is registered: bring the right one back, replace it, or give it up by lost
 k9: $all_the_same"
 at_bench do k9 label --mid 8 --did 1 gm1 c.img
 expect 'another mirror goes on' 0 'k9 ok 4' ''

@@ -48,16 +48,25 @@ at_bench write --key k9 --first 0 --file "$work/data" gm0
 expect_writer 'data of a file' k9 a.img
 at_bench replace --key k9 gm0 b.img c.img
 expect_writer 'a replacement' k9 a.img
+whole=$(dd if="$bench/images/b.img" bs=512 skip=3 2>/dev/null | md5sum)
+overwrite "$bench/images/b.img" 0 X
+keep_bench
+at_bench mend --key k9 b.img
+expect_writer 'a last sector that is mended' k9 a.img
+at_bench mend --force --quiet --key m9 b.img
+expect 'unless that is forced' 0 'm9 ok 4' ''
+[ "$(dd if="$bench/images/b.img" bs=512 skip=3 2>/dev/null | md5sum)" = "$whole" ] && pass 'then it is as it was' ||
+    fail 'then it is as it was' 'its last sector is another'
 at_bench do k3 advance gm0 b.img
 expect 'a key that was accepted is answered without a look' 0 'k3 repeated 3' \
     'k3: done before, as number 3; nothing is done now'
 at_bench label --key k9 gm1 c.img
-expect 'another mirror goes on' 0 'k9 ok 4' "$(cat "$work/complaints")"
+expect 'another mirror goes on' 0 'k9 ok 5' "$(cat "$work/complaints")"
 at_bench do --force k10 deactivate gm0 b.img
-expect 'a command that is forced' 0 'k10 ok 5' ''
+expect 'a command that is forced' 0 'k10 ok 6' ''
 let_go
 at_bench do k11 activate gm0 b.img
-expect 'after its end' 0 'k11 ok 6' ''
+expect 'after its end' 0 'k11 ok 7' ''
 
 hold "3>>'$bench/images/b.img'"
 keep_bench

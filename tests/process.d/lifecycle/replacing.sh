@@ -75,6 +75,94 @@ at_bench replace --quiet --key r1 gm0 b.img c.img
 expect 'with the key it goes on' 0 "$(lines 'r1 repeated 4\nr1.2 ok 5\nr1.3 ok 6\ngm0 c.img ACTIVE')" \
     'r1: done before, as number 4; nothing is done now'
 
+# ---- an image that is there, and ruined
+
+# A replacement of b.img, which isn't usable, isn't done unless it is forced: it complains of just these lines.
+expect_given_up() {
+    cp "$bench/images/b.img" "$work/ruined"
+    keep_bench
+    at_bench replace --quiet gm0 b.img c.img
+    expect "$1: it isn't given up unasked" 1 'g000004 not done' "$(lines "$2\ng000004: $forced")"
+    expect_kept "$1: nothing is written"
+    at_bench replace --quiet --unchecked gm0 b.img c.img
+    expect "$1: nor if the images aren't looked at" 1 'g000004 not done' "$(lines "$2\ng000004: $forced")"
+    at_bench replace --quiet --force gm0 b.img c.img
+    expect "$1: it is if that is forced" 0 "$(lines 'g000004 ok 4\ng000004.2 ok 5\ng000004.3 ok 6\ngm0 c.img ACTIVE')" ''
+    at_bench status
+    expect "$1: the mirror then" 0 "$(lines 'gm0             COMPLETE 2/2\n  a.img           ACTIVE\n  c.img           ACTIVE')" ''
+    expect_same "$1: the old image isn't written" "$bench/images/b.img" "$work/ruined"
+    expect_same_data "$1: the new one has the data" "$bench/images/a.img" "$bench/images/c.img" 1536
+}
+forced='--force carries it out all the same'
+mended='g000004: mend b.img writes that sector again, if the data are right'
+filled_bench short
+truncate -s 512 "$bench/images/b.img"
+expect_given_up 'cut short' 'g000004: b.img is 512 bytes long, and not 2048: it is given up as lost'
+at_bench insert gm0 b.img
+expect_refused 'its name is free' 'g000008 refused 11' 'b.img has 512 bytes'
+filled_bench long
+truncate -s 2560 "$bench/images/b.img"
+expect_given_up 'too long' 'g000004: b.img is 2560 bytes long, and not 2048: it is given up as lost'
+filled_bench zeros
+overwrite "$bench/images/b.img" 0 "$(printf '%512s' | sed 's/ /\\000/g')"
+expect_given_up 'zeros in its last sector' \
+    "g000004: b.img has no metadata in its last sector: it is given up as lost
+$mended"
+filled_bench no-metadata
+overwrite "$bench/images/b.img" 0 X
+expect_given_up 'no metadata' "g000004: b.img has no metadata in its last sector: it is given up as lost
+$mended"
+filled_bench damaged-old
+overwrite "$bench/images/b.img" 100 X
+expect_given_up 'damaged metadata' "g000004: b.img has damaged metadata in its last sector: it is given up as lost
+$mended"
+fresh_bench short-filling
+add_image c.img
+batch "${label}${insert}k3 configure --slice 512 gm0\n"
+truncate -s 512 "$bench/images/b.img"
+expect_given_up 'one that is being filled' 'g000004: b.img is 512 bytes long, and not 2048: it is given up as lost'
+filled_bench short-inactive
+batch 'k4 deactivate gm0 b.img\n'
+truncate -s 512 "$bench/images/b.img"
+at_bench replace --quiet --force --key r1 gm0 b.img c.img
+expect 'one that is INACTIVE' 0 "$(lines 'r1 ok 5\nr1.2 ok 6\nr1.3 ok 7\ngm0 c.img ACTIVE')" ''
+at_bench replace --quiet --key r1 gm0 b.img c.img
+expect 'under its key it is told again' 0 "$(lines 'r1 repeated 5\nr1.2 repeated 6\nr1.3 repeated 7\ngm0 c.img ACTIVE')" \
+    "$(lines 'r1: done before, as number 5; nothing is done now\nr1.2: done before, as number 6; nothing is done now
+r1.3: done before, as number 7; nothing is done now')"
+
+# One that was stopped isn't asked about again.
+filled_bench short-stopped
+truncate -s 512 "$bench/images/b.img"
+batch 'r1 lost gm0 b.img\n'
+at_bench replace --quiet --key r1 gm0 b.img c.img
+expect 'one that was stopped goes on' 0 "$(lines 'r1 repeated 4\nr1.2 ok 5\nr1.3 ok 6\ngm0 c.img ACTIVE')" \
+    'r1: done before, as number 4; nothing is done now'
+
+# The only one that is ACTIVE isn't given up.
+filled_bench short-active
+batch 'k4 deactivate gm0 b.img\n'
+truncate -s 512 "$bench/images/a.img"
+keep_bench
+at_bench replace gm0 a.img c.img
+expect_refused 'the only ACTIVE one, cut short' "$(lines 'g000005 not done\na.img another size')" "hasn't the size that is registered"
+at_bench replace --force gm0 a.img c.img
+expect_refused 'nor if that is forced' "$(lines 'g000005 not done\na.img another size')" "hasn't the size that is registered"
+at_bench replace --force --unchecked gm0 a.img c.img
+expect_refused 'nor if it is not looked at' 'g000005 refused 8' "a.img, a component of gm0, isn't on the shelf with its 4 sectors"
+expect_kept 'nothing is written of it'
+
+# Another image of the mirror is damaged too.
+filled_bench both-damaged
+batch 'k4 insert --did 3 gm0 c.img\nk5 advance gm0 c.img\n'
+add_image d.img
+truncate -s 512 "$bench/images/b.img"
+overwrite "$bench/images/a.img" 0 X
+keep_bench
+at_bench replace gm0 b.img d.img
+expect_refused 'beside another one that is damaged' "$(lines 'g000006 not done\na.img no metadata')" 'a.img is another file'
+expect_kept 'nothing is given up beside it'
+
 # ---- an answer that is lost
 
 filled_bench full-output
@@ -97,6 +185,11 @@ full_bench() {
     done
 }
 
+full_bench full-ruined
+truncate -s 512 "$bench/images/m5.img"
+at_bench replace --quiet --force gm0 m5.img c.img
+expect 'where sixteen are in it, and the old one is cut short' 0 \
+    "$(lines 'g000017 ok 17\ng000017.2 ok 18\ng000017.3 ok 19\ngm0 c.img ACTIVE')" ''
 full_bench full
 at_bench replace --quiet gm0 m5.img c.img
 expect 'where sixteen are in it' 0 "$(lines 'g000017 ok 17\ng000017.2 ok 18\ngm0 c.img ACTIVE')" \
@@ -224,7 +317,6 @@ fi
 # What a later command takes away is asked about before the first is handed in.
 holds='c.img holds data, first in sector 0: a sync writes over all of it'
 alone="c.img alone would be ACTIVE, while others aren't filled: sync first"
-forced='--force carries it out all the same'
 filled_bench gone-and-data
 rm "$bench/images/b.img"
 put_image "$bench/images/c.img" c bare

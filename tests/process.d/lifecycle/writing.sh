@@ -114,7 +114,7 @@ keep_bench
 at_bench write gm0 --first 0 --file "$work/data" --key v
 expect 'an image that is not as it is registered' 1 "$(lines 'v not done\nb.img damaged')" \
     'v: this takes 4 commands, and 204800 bytes of the registry for ever
-v: b.img is another file or was overwritten: bring the right one back, or give it up by lost
+v: b.img is another file or was overwritten: bring the right one back, mend it, replace it, or give it up by lost
 v: --unchecked carries it out all the same'
 expect_kept 'nothing is written beside it'
 at_bench write gm0 --first 0 --file "$work/few" --key v --unchecked

@@ -62,6 +62,6 @@ if has_python 'what is printed as JSON'; then
     run taste --json --shelf "$bench/images"
     expect_json 'a taste that leaves one out' 1 'j["left_out"]' "[{'name': 'b.img', 'reason': 'fault 3'}]"
     run dump --json --shelf "$bench/images" c.img
-    expect 'a dump of nothing' 1 'refused 8' ''
+    expect 'a dump of nothing' 1 '{"answer":"refused","number":8}' ''
 fi
 finish

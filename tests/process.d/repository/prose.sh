@@ -22,10 +22,10 @@ if has_python 'the prose of the documents'; then
         seq "$1" | paste -sd "${2:- }" -
     }
     expect_told 'pages in order' '# A page\n\nIt is short. It says where it is.\n' ''
-    expect_told 'as many words as a page may have' "    $(words 550)" ''
-    expect_told 'a word more' "    $(words 551)" "failed $page has at most 550 words: it has 551"
+    expect_told 'as many words as a page may have' "    $(words 580)" ''
+    expect_told 'a word more' "    $(words 581)" "failed $page has at most 580 words: it has 581"
     rm "$refused/docs/USE.md"
-    expect_told 'a page that is gone' '' 'failed docs/USE.md has at most 5400 words: there is no such page'
+    expect_told 'a page that is gone' '' 'failed docs/USE.md has at most 6400 words: there is no such page'
     : >"$refused/docs/USE.md"
 
     wide=$(printf '%0100d' 0)

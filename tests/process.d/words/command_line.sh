@@ -39,7 +39,7 @@ sed -n 's/^ *name: "\([a-z]*\)",$/\1/p' "$top/crates/gm_command_line/src/table.r
     "$top/crates/gm_command_line/src/by_itself.rt" | LC_ALL=C sort >"$work/wanted"
 subcommands | grep -vx help | LC_ALL=C sort >"$work/there"
 expect_same 'the help has each subcommand once' "$work/there" "$work/wanted"
-[ "$(wc -l <"$work/there")" = 29 ] && pass 'there are 29 of them' || fail 'there are 29 of them' "$(wc -l <"$work/there")"
+[ "$(wc -l <"$work/there")" = 32 ] && pass 'there are 32 of them' || fail 'there are 32 of them' "$(wc -l <"$work/there")"
 "$gmbench" --help >"$work/help"
 for word in $(subcommands | grep -vx help); do
     run "$word" --help

@@ -143,28 +143,7 @@ else
     skip 'what bash offers' 'there is no bash here, or one before 4'
 fi
 
-# ---- zsh and fish have the same words
-
-# Whether a file has each of these words, as it writes one: this comes before it and after it.
-expect_written() {
-    missing=
-    for word in $5; do
-        grep -qE -e "$3$word$4" "$completions/$2" || missing="$missing $word"
-    done
-    [ -n "$5" ] && [ -z "$missing" ] && pass "$1" || fail "$1" "it lacks$missing"
-}
-options=$({
-    "$gmbench" --help
-    for word in $(subcommands | grep -v help); do
-        "$gmbench" "$word" --help
-    done
-} | long_options | sed 's/--//g')
-expect_written 'zsh: each subcommand' _gmbench "^        '" ':' "$(subcommands)"
-expect_written 'zsh: each command of do' _gmbench "^        '" ':' "$commands"
-expect_written 'zsh: each option' _gmbench '--' "(=?[[]|}')" "$options"
-expect_written 'fish: each subcommand' gmbench.fish "^(for line in|   ) '" : "$(subcommands)"
-expect_written 'fish: each command of do' gmbench.fish "^(for line in|   ) '" : "$commands"
-expect_written 'fish: each option' gmbench.fish ' -l ' ' ' "$options"
+# ---- zsh and fish
 
 # What zsh offers after a line that is begun, sorted, in a line.
 in_zsh() {

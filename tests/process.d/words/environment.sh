@@ -73,6 +73,8 @@ expect_words 'a taste of a folder that is no text'
 grep -q "^error: the value of GMBENCH_SHELF isn't UTF-8" "$work/complaints" &&
     pass 'it is said which variable is no text' ||
     fail 'it is said which variable is no text' "$(head -n 1 "$work/complaints")"
+run_with "$registry" "$byte" log
+[ "$status" = 0 ] && pass 'log needs no folder' || fail 'log needs no folder' "status $status, '$(cat "$work/complaints")'"
 run_with "$byte" "$byte" --help
 [ "$status" = 0 ] && pass 'the help needs neither' || fail 'the help needs neither' "status $status"
 run_with "$work/unmade" "$shelf" status --shelf

@@ -56,7 +56,9 @@ run --registry label --shelf images status
 expect_tip 'a value that is called as a command is' 2 '--registry comes after the command: gmbench status --registry ..'
 run --shelf images taste
 expect_tip 'an option that a taste has' 2 '--shelf comes after the command: gmbench taste --shelf ..'
-for words in '--registry registry taste' '--force status' '--registry registry' '--registry' '--midway label gm0 a.img'; do
+run --registry registry log
+expect_tip 'an option that log has' 2 '--registry comes after the command: gmbench log --registry ..'
+for words in '--registry registry taste' '--shelf images log' '--force status' '--registry registry' '--registry' '--midway label gm0 a.img'; do
     run $words
     expect_no_tip "no tip for $words" 2
 done

@@ -1,0 +1,5 @@
+pub mod Compared
+pub mod Doubts
+pub mod Others
+pub mod Owed
+pub mod Repair
