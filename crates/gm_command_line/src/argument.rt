@@ -25,7 +25,7 @@ pub(crate) enum Need {
 pub(crate) enum Given {
     /// The option alone.
     Flag,
-    /// `--all`, which stands for names, and can't be told as JSON.
+    /// `--all`, which stands for names. It goes with no key, and can't be told as JSON.
     All,
     Text,
     /// A number from the first to the second.
@@ -113,7 +113,7 @@ impl Argument {
     fn arg(self, alloc: Global, settings: Settings<'_>) -> Result<Arg<'static>, AllocError> {
         let arg = self.taken(alloc);
         match (self.given, self.need) {
-            (Given::All, _) => arg.conflicts_with_all(&["name", "json"]),
+            (Given::All, _) => arg.conflicts_with_all(&["name", "json", "key"]),
             (_, Need::Never) => Ok(arg),
             (_, Need::Always) => Ok(arg.required(true)),
             (_, Need::UnlessRegistryIsSet) => Ok(arg.required(settings.registry.is_unset())),

@@ -167,10 +167,10 @@ one isn't as it is registered, nothing is done. This is printed, and the status 
   KEY not done
   PROV HOW          for each such image: absent, another size, no metadata, damaged, another mirror,
                     another component, older, newer or changed
-With --unchecked it is carried out all the same. Nor is it done if data are lost then that nobody
-said are to be lost: a sentence says which. At a terminal it asks, and goes on after `yes`; with
---force it doesn't ask. Nor is it done if an image is in use: another program has it open for
-writing or locked, or a loop device has it. --force carries it out all the same.
+With --unchecked it is done anyway. Nor is it done if data are lost then that nobody said are to be
+lost: a sentence says which. At a terminal it asks, and goes on after `yes`; with --force it doesn't
+ask. Nor is it done if an image is in use: another program has it open for writing or locked, or a
+loop device has it. --force does it anyway.
 
 Example:
   gmbench do --registry registry --shelf images k1 label --mid 7 --did 1 gm0 a.img";
@@ -184,7 +184,7 @@ over: the image is named, nothing is written to the mirror, and the status is 1.
 images is in use, nothing is filled, it prints `not done`, and the status is 1, unless --force is
 given. At the end a line for each component says its state:
   NAME PROV STATE
-With --json that is one line, with these as `components` and the named images as `passed_over`.";
+With --json that is one line, with these as `components` and the named images as `amiss`.";
 
 /// What the help of `scrub` says below its options.
 pub(crate) const COMPARING: &str =

@@ -79,7 +79,7 @@ pub(crate) fn standing_json(
         }
     }
     let images = name_values(alloc, &passed_over.images)?;
-    let value = json!(in alloc; {"components": components, "passed_over": images})?;
+    let value = json!(in alloc; {"amiss": images, "components": components})?;
     as_line(value.to_string(alloc)?)
 }
 
@@ -102,7 +102,7 @@ pub(crate) fn refused_json(
     put(&mut map, alloc, "number", Value::from(number))?;
     if !images.is_empty() {
         let images = name_values(alloc, images)?;
-        put(&mut map, alloc, "passed_over", Value::Array(images))?;
+        put(&mut map, alloc, "amiss", Value::Array(images))?;
     }
     as_line(Value::Object(map).to_string(alloc)?)
 }

@@ -65,7 +65,7 @@ pub(crate) fn in_use_report<I, O, E: Write>(
 {
     let sentence = in_use_sentence(alloc, found)?;
     let _ = writeln!(streams.complaints, "{sentence}");
-    let _ = writeln!(streams.complaints, "--force fills all the same");
+    let _ = writeln!(streams.complaints, "--force fills anyway");
     Ok(Report {
         status: Status::Refused,
         text: not_done_text(alloc, form)?,

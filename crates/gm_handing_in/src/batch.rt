@@ -80,7 +80,7 @@ pub fn hand_in_text<S: Alter, H: Shelf, O: Write, E: Write>(
 }
 
 // How a command is handed in that would lose something.
-const FORCED_ALL_THE_SAME: &str = "--force after the key carries it out all the same";
+const FORCED_ALL_THE_SAME: &str = "--force after the key does it anyway";
 
 // How a batch goes on after a line.
 #[derive(Clone, Copy, Debug, PartialEq, Eq)]
@@ -178,7 +178,7 @@ fn hand_in_guarded<S: Alter, H: Shelf, O: Write, E: Write>(
 {
     let request = request_of(alloc, &pieces(alloc, text)?)?;
     let guarded = ask_guarded(alloc, bench, &request, &mut Unwatched);
-    let all_the_same = "without --audit it is carried out all the same";
+    let all_the_same = "without --audit it is done anyway";
     tell_guarded(
         alloc,
         text.as_bytes(),
@@ -221,7 +221,7 @@ fn hand_in_weighed<S: Alter, H: Shelf, O: Write, E: Write>(
         }
         Weighed::Passed(guarded) => {
             let line = explained_line(alloc, text, &line)?;
-            let all_the_same = "without --guarded it is carried out all the same";
+            let all_the_same = "without --guarded it is done anyway";
             tell_guarded(
                 alloc,
                 line.as_bytes(),

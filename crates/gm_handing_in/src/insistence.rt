@@ -69,9 +69,6 @@ pub fn is_wanted<I: BufRead, O: Write, E: Write>(
         }
         tell_not_done(alloc, key, form, streams)?;
     }
-    let _ = writeln!(
-        streams.complaints,
-        "{key}: --force carries it out all the same"
-    );
+    let _ = writeln!(streams.complaints, "{key}: --force does it anyway");
     Ok(false)
 }

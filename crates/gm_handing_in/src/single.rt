@@ -148,7 +148,7 @@ fn tell_withheld<I, O: Write, E: Write>(
     streams.output.write_all(text.as_bytes())?;
     streams.output.flush()?;
     let mut explainer = Explainer::new(rt, streams.complaints, &streams.explaining);
-    explainer.explain_withheld(key, list, "--unchecked carries it out all the same");
+    explainer.explain_withheld(key, list, "--unchecked does it anyway");
     Ok(Status::Refused)
 }
 

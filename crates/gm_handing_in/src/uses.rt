@@ -25,9 +25,6 @@ pub fn are_free<I, O: Write, E: Write>(
     tell_not_done(alloc, key, form, streams)?;
     let sentence = in_use_sentence(alloc, &found)?;
     let _ = writeln!(streams.complaints, "{key}: {sentence}");
-    let _ = writeln!(
-        streams.complaints,
-        "{key}: --force carries it out all the same"
-    );
+    let _ = writeln!(streams.complaints, "{key}: --force does it anyway");
     Ok(false)
 }

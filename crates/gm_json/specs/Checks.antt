@@ -14,8 +14,8 @@ use Rattle.gm_json.specs.Mirrors.{standing_mirror}
 -- a component whose image isn't as it is registered, and how it stands
 abbrev pub unlike_data : Unlike → Data
 unlike_data x = object_of (
-    text_at (codes "how") (told_standing x.standing)
-    ∷ text_at (codes "name") x.provider
+    text_at (codes "image") x.provider
+    ∷ text_at (codes "standing") (told_standing x.standing)
     ∷ [])
 
 -- an image that claims to be a component, or was one until it was given up

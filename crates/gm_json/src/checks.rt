@@ -20,9 +20,9 @@ use std::alloc::{AllocError, Global};
 fn unlike_value(alloc: Global, unlike: &Unlike) -> Result<Value, AllocError>
     ensures { IfOk result (λ v. view v ≡ unlike_data unlike.now) }
 {
-    let how = told_standing(unlike.standing);
-    let name = unlike.provider.as_str();
-    json!(in alloc; {"how": how, "name": name})
+    let image = unlike.provider.as_str();
+    let standing = told_standing(unlike.standing);
+    json!(in alloc; {"image": image, "standing": standing})
 }
 
 fn unlike_values(alloc: Global, list: &[Unlike]) -> Result<Vec<Value>, AllocError>

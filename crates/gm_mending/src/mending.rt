@@ -7,7 +7,7 @@ ghost use Rattle.gm_process.specs.Statuses.{MayRefuse};
 
 use crate::compared::{Compared, compare};
 use crate::doubts::{doubts_of, is_agreed};
-use crate::others::{has_another_size, others_than, standing_among};
+use crate::others::{has_another_size, others_than};
 use crate::owed::{Owed, owed_of};
 use crate::repair::{Target, fills_by_itself, repair_of, repair_words, set_before, target_of};
 use crate::sayings::{Difference, say_as_registered, say_differs, say_no_component, withhold};
@@ -31,7 +31,7 @@ use std::io::{BufRead, Write};
 const ANOTHER_SIZE: &str = "mend writes the last sector of an image that is there in its size";
 
 // How it is mended though other images are in the way.
-const UNCHECKED: &str = "--unchecked carries it out all the same";
+const UNCHECKED: &str = "--unchecked does it anyway";
 
 // What is looked at before the command is handed in, when all of it was looked at before.
 const LOOKED_AT: Checks = Checks {

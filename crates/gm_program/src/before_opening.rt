@@ -73,7 +73,7 @@ fn are_used<I, O, E>(
         return Ok(false);
     };
     let mut text = in_use_sentence(alloc, &used)?;
-    text.push_str("\nnothing pending is carried out; recover --force does so all the same\n")?;
+    text.push_str("\nnothing pending is carried out; recover --force does it anyway\n")?;
     streams.explaining.way_on = Some(text);
     Ok(true)
 }

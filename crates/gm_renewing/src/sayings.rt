@@ -132,7 +132,7 @@ pub(crate) fn hindered_report<I, O, E: Write>(
         Hindrance::InUse(found) => {
             let sentence = in_use_sentence(alloc, found)?;
             let _ = writeln!(streams.complaints, "{sentence}");
-            let _ = writeln!(streams.complaints, "--force renews all the same");
+            let _ = writeln!(streams.complaints, "--force renews anyway");
             not_done(alloc, &[], form)
         }
     }

@@ -1,15 +1,9 @@
 -- What is seen of the image that a replacement takes out.
-use Rattle.std.specs.Prelude.{ℕ, List, Option, Some, None, find, option_map}
-use Rattle.gm_metadata.specs.Images.{same_label}
+use Rattle.std.specs.Prelude.{Option, Some, None}
 use Rattle.gm_looks.specs.declared.standing.Standing.{Standing}
 use Rattle.gm_looks.specs.declared.standing.Standing.TheVariants.{AsRegistered, Absent, AnotherSize, Zero, NoMetadata, Damaged, AnotherMirror, AnotherComponent, Older, Newer, Member}
-use Rattle.gm_looks.specs.declared.unlike.Unlike.{Unlike}
 use Rattle.gm_ways.specs.declared.way.OldImage.{OldImage}
 use Rattle.gm_ways.specs.declared.way.OldImage.TheVariants.{There, Ruined, Gone}
-
--- how an image stands, if it is among these that aren't as they are registered
-abbrev pub standing_among : List Unlike → List ℕ → Option Standing
-standing_among list p = option_map (λ e. e.standing) (find (λ e. same_label e.provider p) list)
 
 -- what is seen of an image that stands so
 abbrev pub old_image_of : Standing → OldImage

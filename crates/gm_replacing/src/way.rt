@@ -1,9 +1,8 @@
 //! In which order an image takes another one's place, by the registry and the images.
 
-ghost use Rattle.std.specs.Prelude.{◌≡◌, OnOk, find};
-ghost use Rattle.gm_metadata.specs.Images.{same_label};
+ghost use Rattle.std.specs.Prelude.{◌≡◌, OnOk};
 ghost use Rattle.gm_bench.specs.Benches.{progress_of};
-ghost use Rattle.gm_replacing.specs.OldImages.{old_image_by, standing_among};
+ghost use Rattle.gm_replacing.specs.OldImages.{old_image_by};
 
 use crate::commands::exchange_of;
 use crate::filled::is_active_in;
@@ -18,6 +17,7 @@ use gm_metadata::Label;
 use gm_process::Streams;
 use gm_shelf::Shelf;
 use gm_state::State;
+use gm_unlike::standing_among;
 use gm_ways::{Act, OldImage, Way, is_member, way_begun, way_by};
 use sqlite::Alter;
 use std::alloc::Global;
@@ -30,23 +30,6 @@ pub(crate) struct Going {
     pub(crate) is_begun: bool,
     /// How the old image stands, if the way goes by that and it isn't as it is registered.
     pub(crate) old: Option<Standing>,
-}
-
-// An image, if it is among these.
-fn found_among(unlike: &[Unlike], image: Label) -> Option<Unlike>
-    ensures { result ≡ find (λ e. same_label e.provider image) unlike.now }
-{
-    unlike.iter().copied().find(|it| it.provider == image)
-}
-
-// How an image stands, if it is among these that aren't as they are registered.
-fn standing_among(unlike: &[Unlike], image: Label) -> Option<Standing>
-    ensures { result ≡ standing_among unlike.now image }
-{
-    match found_among(unlike, image) {
-        Some(found) => Some(found.standing),
-        None => None,
-    }
 }
 
 // How the image of a component stands, if it isn't as it is registered.

@@ -1,5 +1,6 @@
 -- The text of what was passed over in a folder.
-use Rattle.std.specs.Prelude.{ℕ, ◌-◌, Bool, ◌||◌, nat_le, nat_lt, List, [], ◌∷◌, ◌++◌, codes, count_by, flat_map, replicate}
+use Rattle.std.specs.Prelude.{ℕ, ◌-◌, Bool, ◌||◌, nat_eq, nat_le, nat_lt, List, [], ◌∷◌, ◌++◌, codes, count_by, flat_map, replicate}
+use Rattle.std.specs.List.{list_any}
 use Rattle.std.specs.String.{string_bytes}
 use Rattle.gm_shelf.specs.declared.passed_over.PassedOver.{PassedOver}
 use Rattle.gm_shelf.specs.Entries.{no_image_text}
@@ -14,10 +15,18 @@ begins_character byte = nat_lt byte 128 || nat_le 192 byte
 abbrev pub in_15 : List ℕ → List ℕ
 in_15 shown = shown ++ replicate (15 - count_by begins_character shown) 32
 
+-- whether a name has a space
+abbrev pub has_space : List ℕ → Bool
+has_space = list_any (λ byte. nat_eq byte 32)
+
+-- a name as it is told: between quotes if it has a space, which nobody would see at its end
+abbrev pub told_name : List ℕ → List ℕ
+told_name name = if has_space name then codes "'" ++ name ++ codes "'" else name
+
 -- an entry: its name, and why it isn't an image
 abbrev pub passed_line : PassedOver → List ℕ
 passed_line x =
-    line (codes "  " ++ in_15 (legible_name (string_bytes x.name)) ++ codes " "
+    line (codes "  " ++ in_15 (told_name (legible_name (string_bytes x.name))) ++ codes " "
     ++ no_image_text x.reason)
 
 -- those that were passed over, if some were

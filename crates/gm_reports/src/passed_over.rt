@@ -1,8 +1,9 @@
 //! The text of what was passed over in a folder, since it is no image.
 
-ghost use Rattle.std.specs.Prelude.{◌≡◌, ◌++◌, ◌-◌, OnOk, count_by, replicate};
+ghost use Rattle.std.specs.Prelude.{◌≡◌, ◌++◌, ◌-◌, IfOk, OnOk, count_by, replicate};
 ghost use Rattle.std.specs.String.{string_bytes};
-ghost use Rattle.gm_reports.specs.PassedOver.{begins_character, passed_line, passed_text};
+ghost use Rattle.gm_process.specs.Legible.{legible_name};
+ghost use Rattle.gm_reports.specs.PassedOver.{begins_character, has_space, passed_line, passed_text, told_name};
 
 use gm_process::legible_name;
 use gm_shelf::PassedOver;
@@ -36,13 +37,32 @@ fn push_rest_of_15(text: &mut String, taken: usize) -> Result<(), AllocError>
     Ok(())
 }
 
+// Whether a name has a space.
+fn has_space(name: &str) -> bool
+    ensures { result ≡ has_space name.now }
+{
+    name.as_bytes().iter().any(|byte| *byte == b' ')
+}
+
+// A name as it is told: between quotes if it has a space, which nobody would see at its end.
+fn told_name(alloc: Global, name: &str) -> Result<String, AllocError>
+    ensures { IfOk result (λ text. string_bytes text ≡ told_name (legible_name name.now)) }
+{
+    let name = legible_name(alloc, name)?;
+    if has_space(&name) {
+        format!(in alloc; "'{name}'")
+    } else {
+        Ok(name)
+    }
+}
+
 // Appends the line of an entry.
 fn push_line(alloc: Global, text: &mut String, passed: &PassedOver) -> Result<(), AllocError>
     ensures { OnOk result
         (string_bytes text.new ≡ string_bytes text.old ++ passed_line passed.now) }
 {
     let reason = passed.reason;
-    let name = legible_name(alloc, &passed.name)?;
+    let name = told_name(alloc, &passed.name)?;
     text.push_str("  ")?;
     text.push_str(&name)?;
     push_rest_of_15(text, characters_of(&name))?;

@@ -1,3 +1,4 @@
+pub mod Among
 pub mod Checkups
 pub mod Claims
 pub mod Flaws

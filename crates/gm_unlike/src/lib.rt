@@ -5,15 +5,17 @@
 //! differ, and which components hold equal data (`specs/Unequals.antt`); `flaws.rt` tells that
 //! (`specs/Flaws.antt`). `claims.rt` finds images that say that they are components, and aren't
 //! (`specs/Claims.antt`). `checkup.rt` looks at images and their data at once, and says whether all
-//! is well: `specs/Checkups.antt`.
+//! is well: `specs/Checkups.antt`. `among.rt` finds one image of such a list.
 #![tactic(auto)]
 
+mod among;
 mod checkup;
 mod claims;
 mod flaws;
 mod text;
 mod unequal;
 
+pub use among::standing_among;
 pub use checkup::{Amiss, Checkup, Renewal, amiss_shelf};
 pub use claims::Claim;
 pub use flaws::unequal_lines;

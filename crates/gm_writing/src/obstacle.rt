@@ -90,5 +90,5 @@ fn say_large<E: Write>(
         complaints,
         "{key}: to do without: deactivate all images but one, edit that, activate the others, sync"
     )?;
-    writeln!(complaints, "{key}: --force writes them all the same")
+    writeln!(complaints, "{key}: --force writes them anyway")
 }

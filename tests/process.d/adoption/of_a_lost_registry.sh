@@ -95,7 +95,7 @@ cp "$bench/images/b.img" "$work/torn-b"
 why="the source is DIRTY, these aren't: adopt gm0 b.img"
 at_bench adopt gm0 a.img b.img
 expect 'an adoption from a torn image is not done' 1 'g000001 not done' "$(lines "g000001: $why
-g000001: --force carries it out all the same")"
+g000001: --force does it anyway")"
 at_bench adopt --all
 expect 'nor one of all' 1 "gm0 left: $why" ''
 at_bench status

@@ -18,10 +18,10 @@ why='b.img is ACTIVE and differs from the source in 2 sectors, first 1: both may
 # ---- an adoption that isn't wanted
 
 at_bench adopt gm0 a.img b.img
-expect 'it is not done' 1 'g000001 not done' "$(lines "g000001: $why\ng000001: --force carries it out all the same")"
+expect 'it is not done' 1 'g000001 not done' "$(lines "g000001: $why\ng000001: --force does it anyway")"
 at_bench adopt --json gm0 a.img b.img
 expect 'nor as JSON' 1 '{"answer":"not done","key":"g000001"}' "$(lines "g000001: $why
-g000001: --force carries it out all the same")"
+g000001: --force does it anyway")"
 at_bench adopt --all
 expect 'nor with all mirrors' 1 "gm0 left: $why" ''
 at_bench status
@@ -48,7 +48,7 @@ expect_same_data 'gives it the data of the source' "$bench/images/a.img" "$bench
 found_again
 at_bench adopt gm0 b.img
 expect 'one alone leaves the other' 1 'g000001 not done' "$(lines 'g000001: a.img is of the same mirror: adopt it too
-g000001: --force carries it out all the same')"
+g000001: --force does it anyway')"
 mkdir "$work/away"
 mv "$bench/images/a.img" "$work/away"
 at_bench adopt gm0 b.img

@@ -10,9 +10,15 @@ strange() {
 # Whether each command that opens the registry of that bench leaves all as it is, and says why.
 expect_left_alone() {
     keep_bench
-    for words in status list audit recover batch 'audit --existing' 'sync --unchecked' 'sync --force'; do
+    for words in status list audit recover batch 'audit --existing'; do
         at_bench $words </dev/null
         expect "$1: $words" 3 '' "$(strange "$2" "$3")"
+    done
+    # A sync also says what the fault means.
+    for words in 'sync --unchecked' 'sync --force'; do
+        at_bench $words </dev/null
+        meaning="F5: $2 isn't there as it was left, and a write to it is pending"
+        expect "$1: $words" 3 '' "$(strange "$2" "$3" | sed "1a $meaning")"
     done
     for words in 'do k9 forget gm0' 'forget gm0' 'insert --unchecked --force gm0 c.img' 'adopt --all'; do
         at_bench $words </dev/null

@@ -80,7 +80,7 @@ printf "$label${insert}k3 destroy gm0\n" >"$work/lines"
 status=$?
 tail -c 8 "$bench/answers" >"$work/output"
 expect 'a batch whose standard output takes one answer' 3 'k1 ok 1' "$broken"
-expect_images 'the second line is carried out all the same' pending-a pending-b
+expect_images 'the second line is done anyway' pending-a pending-b
 at_bench batch <"$work/lines"
 expect 'the same batch behind that one' 0 "$(lines 'k1 repeated 1\nk2 repeated 2\nk3 ok 3')" ''
 fresh_bench no-complaints

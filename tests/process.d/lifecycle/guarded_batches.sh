@@ -17,7 +17,7 @@ guarded() {
     at_bench batch --guarded "$@" <"$work/lines"
 }
 
-forced='--force after the key carries it out all the same'
+forced='--force after the key does it anyway'
 full='data.img holds data, first in sector 1: a sync writes over all of it'
 
 # ---- what would be lost
@@ -86,7 +86,7 @@ keep_bench
 guarded 'k4 --force destroy gm0\nk5 label --mid 8 --did 1 gm1 c.img\n' --explain
 expect 'an image stands in the way, forced or not' 1 "$(lines 'k4 not done\nb.img absent')" \
     "k4: b.img isn't in the folder: bring it back, or give it up by lost
-k4: without --guarded it is carried out all the same"
+k4: without --guarded it is done anyway"
 expect_kept 'an image stands in the way: nothing was written'
 guarded 'k4 lost gm0 b.img\n'
 expect 'an image that is gone is given up' 0 'k4 ok 4' ''

@@ -4,7 +4,7 @@
 
 # ---- images that aren't as they are registered stand in the way of a command of their mirror
 
-all_the_same='--unchecked carries it out all the same'
+all_the_same='--unchecked does it anyway'
 overwritten='is another file or was overwritten: bring the right one back, mend it, replace it, or give it up by lost'
 
 # A bench whose mirror gm0 has a.img and b.img, both ACTIVE, beside blank images c.img and d.img.
@@ -95,13 +95,13 @@ expect 'it ends at the first command that an image stands in the way of' 1 \
 at_bench batch --audit --explain <"$work/lines"
 expect 'and says why' 1 "$(lines 'k4 repeated 4\nk5 not done\nb.img absent')" \
     "k5: b.img isn't in the folder: bring it back, or give it up by lost
-k5: without --audit it is carried out all the same"
+k5: without --audit it is done anyway"
 at_bench batch <"$work/lines"
 expect 'without the option it goes on' 1 "$(lines 'k4 repeated 4\nk5 refused 8\nk6 ok 5')" ''
 
 # ---- what would be lost
 
-forced='--force carries it out all the same'
+forced='--force does it anyway'
 
 # Whether nothing was done under a key of its own, because of this, and --force carries it out.
 asked=0

@@ -2,7 +2,7 @@
 . "$helpers/bench.sh"
 . "$helpers/python.sh"
 
-forced='--force carries it out all the same'
+forced='--force does it anyway'
 
 # A bench whose mirror gm0 has a.img and b.img, both ACTIVE, beside a blank image c.img.
 fresh_mirror() {
@@ -72,7 +72,7 @@ hold "3>>'$bench/images/b.img'"
 keep_bench
 at_bench sync
 expect 'a sync' 1 'not done' "b.img is open for writing by process $holder (sleep): end that first
---force fills all the same"
+--force fills anyway"
 expect_kept 'a sync: nothing was written'
 at_bench sync --json
 expect 'a sync as JSON' 1 '{"answer":"not done"}' "$(cat "$work/complaints")"

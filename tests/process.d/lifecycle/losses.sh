@@ -1,7 +1,7 @@
 # What a command would take away, as `do` says it: each loss, in order, beside what loses nothing, and what is refused.
 . "$helpers/bench.sh"
 
-forced='--force carries it out all the same'
+forced='--force does it anyway'
 
 # Whether the command of a row, over that bench as it was kept, is answered so under the key k9: `ok`, `refused` with its
 # number, or `lost` if it isn't done, with a line for each loss.

@@ -38,8 +38,8 @@ expect_not_done() {
     expect_kept "$1: nothing is written"
 }
 
-forced='--force carries it out all the same'
-unchecked='--unchecked carries it out all the same'
+forced='--force does it anyway'
+unchecked='--unchecked does it anyway'
 
 # ---- a last sector that was damaged
 

@@ -132,7 +132,7 @@ holder=$!
 sleep 0.3
 at_bench renew
 expect 'an image in use' 1 'not done' "b.img is open for writing by process $holder (sleep): end that first
---force renews all the same"
+--force renews anyway"
 expect_kept 'it isn'"'"'t written'
 at_bench renew --force
 expect 'an image in use, if that is forced' 0 "$(renewed 1 3 1)" ''

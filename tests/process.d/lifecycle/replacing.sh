@@ -93,7 +93,7 @@ expect_given_up() {
     expect_same "$1: the old image isn't written" "$bench/images/b.img" "$work/ruined"
     expect_same_data "$1: the new one has the data" "$bench/images/a.img" "$bench/images/c.img" 1536
 }
-forced='--force carries it out all the same'
+forced='--force does it anyway'
 mended='g000004: mend b.img writes that sector again, if the data are right'
 filled_bench short
 truncate -s 512 "$bench/images/b.img"
@@ -360,7 +360,7 @@ active_bench active
 keep_bench
 at_bench replace gm0 b.img c.img
 expect_refused 'one that is ACTIVE before it begins' 'g000006 not done' "g000006: $already"
-grep -qx 'g000006: --force carries it out all the same' "$work/complaints" && pass 'it says how it is done' ||
+grep -qx 'g000006: --force does it anyway' "$work/complaints" && pass 'it says how it is done' ||
     fail 'it says how it is done' "$(cat "$work/complaints")"
 at_bench replace --key r2 gm0 b.img c.img
 expect_refused 'under a key that is new' 'r2 not done' "r2: $already"

@@ -115,7 +115,7 @@ at_bench write gm0 --first 0 --file "$work/data" --key v
 expect 'an image that is not as it is registered' 1 "$(lines 'v not done\nb.img damaged')" \
     'v: this takes 4 commands, and 204800 bytes of the registry for ever
 v: b.img is another file or was overwritten: bring the right one back, mend it, replace it, or give it up by lost
-v: --unchecked carries it out all the same'
+v: --unchecked does it anyway'
 expect_kept 'nothing is written beside it'
 at_bench write gm0 --first 0 --file "$work/few" --key v --unchecked
 expect 'unless it is not to look' 0 'v ok 14' ''
@@ -196,7 +196,7 @@ keep_bench
 at_bench write gm0 --first 100 --file "$work/large.data" --key w
 expect 'more than 16 MiB' 1 'w not done' "w: this takes 513 commands, and 33555456 bytes of the registry for ever
 w: to do without: deactivate all images but one, edit that, activate the others, sync
-w: --force writes them all the same"
+w: --force writes them anyway"
 expect_kept 'nothing is written of them'
 timeout 60 "$gmbench" write gm0 --first 100 --file "$work/large.data" --key w --force --registry "$registry" \
     --shelf "$bench/images" >"$work/output" 2>"$work/complaints"

@@ -73,7 +73,7 @@ b.img absent
 b.img isn't compared
 $(ending 4 1 "$amiss")" ''
 at_bench check --data --quiet --json
-expect 'the same as JSON' 1 '{"amiss":[{"how":"absent","name":"b.img"}],"claims":[],"differ":[],'"$mirrors"',"pending":0,'"$of_registry"',"uncompared":["b.img"],"well":false}' ''
+expect 'the same as JSON' 1 '{"amiss":[{"image":"b.img","standing":"absent"}],"claims":[],"differ":[],'"$mirrors"',"pending":0,'"$of_registry"',"uncompared":["b.img"],"well":false}' ''
 put_back
 damage "$bench/images/a.img" 131684 z
 at_bench check

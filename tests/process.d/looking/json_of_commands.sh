@@ -147,7 +147,7 @@ at_bench sync --quiet --json gm0 c.img
 expect_line 'a sync of a component that is not there' 1 '{"answer":"refused","number":12}'
 mv "$bench/images/b.img" "$work/away"
 at_bench sync --quiet --json
-expect 'a sync that passes a mirror over' 1 '{"components":[],"passed_over":["b.img"]}' \
+expect 'a sync that passes a mirror over' 1 '{"amiss":["b.img"],"components":[]}' \
     'gm0 is passed over: not all of its images are as they are registered'
 at_bench sync --quiet --json --unchecked
 expect_line 'a sync that is refused' 1 '{"answer":"refused","number":8}'

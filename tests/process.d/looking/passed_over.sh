@@ -38,7 +38,7 @@ passed over:$device
   of-511          length no multiple of 512
   of-513          length no multiple of 512
   sixteen-letters0 name too long$socket
-  two words       name with other characters
+  'two words'     name with other characters
   ä.img           name with other characters
   ?               name with other characters" ''
 
@@ -56,18 +56,18 @@ put_image "$images/$(printf 'right\342\200\256left')" a pending-a
 put_image "$images/日本" a pending-a
 put_image "$images/sixteen letters0" a pending-a
 ln -s a.img "$images/a link"
-passed_over_is 'names of other characters' "$images" 'passed over:
+passed_over_is 'names of other characters' "$images" "passed over:
   ?[31mred        name with other characters
-  a folder        name with other characters
-  a link          name with other characters
+  'a folder'      name with other characters
+  'a link'        name with other characters
   bell?           name with other characters
   c1?x            name with other characters
   delete?         name with other characters
   folder-with-a-long-name name too long
   right?left      name with other characters
-  sixteen letters0 name too long
+  'sixteen letters0' name too long
   two?lines       name with other characters
-  日本              name with other characters'
+  日本              name with other characters"
 rm -r "$images"/*[!g]
 passed_over_is 'nothing is told where each file is an image' "$images" ''
 
@@ -102,7 +102,7 @@ for name in registry-wal registry-journal 'my registry-wal' 'my registry-shm' fo
     echo beside >"$images/$name"
 done
 run taste --shelf "$images"
-expect 'files beside databases' 0 'no mirrors
+expect 'files beside databases' 0 "no mirrors
 left out:
   registry        no metadata
   registry-shm    no metadata
@@ -110,9 +110,9 @@ passed over:
   -wal            length no multiple of 512
   alone-wal       length no multiple of 512
   folder          not a regular file
-  my registry     name with other characters
+  'my registry'   name with other characters
   registry-       length no multiple of 512
-  registry-walk   length no multiple of 512' ''
+  registry-walk   length no multiple of 512" ''
 
 # The registry of a bench that lies among its images.
 fresh_bench among

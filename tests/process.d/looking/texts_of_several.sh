@@ -140,7 +140,7 @@ put_edited "$images/j.img" j 20 gm1 87 '\001'
 put_edited "$images/k.img" k 20 gm1 40 '\002' 87 '\001'
 put_image "$images/two words" t bare
 run taste --shelf "$images"
-expect 'a taste of each state, and of each way to be left out' 1 'fifteen-letters mid 4294967295 genid 1 syncid 0
+expect 'a taste of each state, and of each way to be left out' 1 "fifteen-letters mid 4294967295 genid 1 syncid 0
   a.img           BROKEN
   fifteen-letter2 INACTIVE DIRTY
   z               STALE 36028797018963967 of 0
@@ -161,6 +161,6 @@ left out:
   h.img           names another image
   i.img           tells another size
 passed over:
-  two words       name with other characters' ''
+  'two words'     name with other characters" ''
 set --
 finish

@@ -47,7 +47,7 @@ expect "an image of the other office under a member's name is found" 1 b.img ''
 at_bench configure --balance prefer gm0
 expect 'and stands in the way of a command' 1 "$(lines 'g000004 not done\nb.img another mirror')" "$(lines \
     'g000004: b.img is another image, by what it says: were names exchanged? See dump and taste
-g000004: --unchecked carries it out all the same')"
+g000004: --unchecked does it anyway')"
 at_bench sync
 expect 'and of a sync' 1 b.img 'gm0 is passed over: not all of its images are as they are registered'
 expect_kept 'nothing is written'
