@@ -79,11 +79,14 @@ _gmbench_names() {
     _gmbench_takes 1 '' label adopt
     _gmbench_takes 1 mirror insert remove deactivate activate forget rebuild configure destroy lost advance patch \
         scrub log replace write sync
-    _gmbench_takes 1 image clear dump mend
-    _gmbench_takes 2 image label insert remove deactivate activate rebuild advance sync
+    _gmbench_takes 1 spare clear
+    _gmbench_takes 1 image dump mend
+    _gmbench_takes 2 spare label insert
+    _gmbench_takes 2 image remove deactivate activate rebuild advance sync
     _gmbench_takes 2 image replace
-    _gmbench_takes 2+ image lost adopt
-    _gmbench_takes 3 image replace
+    _gmbench_takes 2+ image lost
+    _gmbench_takes 2+ spare adopt
+    _gmbench_takes 3 spare replace
 }
 # docs/words ends
 
@@ -105,14 +108,34 @@ _gmbench_offer_images() {
     done
 }
 
-# Offers the mirrors of the registry, which is only looked at.
+# Prints the status of the registry's mirrors. It is only looked at.
+_gmbench_status() {
+    [[ -n $registry && -n $shelf ]] || return
+    command gmbench status --read-only --registry "${registry/#\~\//$HOME/}" --shelf "${shelf/#\~\//$HOME/}" 2>/dev/null
+}
+
+# Offers the images of the folder that are no components by the registry.
+_gmbench_offer_spares() {
+    local line name members=' ' images
+    while IFS= read -r line; do
+        if [[ $line == ' '* ]]; then
+            read -r name line <<<"$line"
+            members+="$name "
+        fi
+    done < <(_gmbench_status)
+    _gmbench_offer_images
+    images=("${COMPREPLY[@]}") COMPREPLY=()
+    for name in "${images[@]}"; do
+        [[ $members == *" $name "* ]] || COMPREPLY+=("$name")
+    done
+}
+
+# Offers the mirrors of the registry.
 _gmbench_offer_mirrors() {
     local line
-    [[ -n $registry && -n $shelf ]] || return
     while IFS= read -r line; do
         [[ $line == ' '* || $line == 'no mirrors' ]] || _gmbench_offer "${line%% *}"
-    done < <(command gmbench status --read-only --registry "${registry/#\~\//$HOME/}" \
-        --shelf "${shelf/#\~\//$HOME/}" 2>/dev/null)
+    done < <(_gmbench_status)
 }
 
 # Offers files or folders of any name.
@@ -127,6 +150,7 @@ _gmbench_offer_kind() {
         file) _gmbench_offer_paths -f ;;
         folder) _gmbench_offer_paths -d ;;
         image) _gmbench_offer_images ;;
+        spare) _gmbench_offer_spares ;;
         mirror) _gmbench_offer_mirrors ;;
         other) ;;
         *) _gmbench_offer $1 ;;

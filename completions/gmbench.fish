@@ -73,13 +73,17 @@ function __gmbench_path
     true
 end
 
-# The mirrors of the registry, which is only looked at.
-function __gmbench_mirrors
+# The status of the registry's mirrors. It is only looked at.
+function __gmbench_status
     set -l registry (__gmbench_path --registry "$GMBENCH_REGISTRY"); or return
     set -l shelf (__gmbench_path --shelf "$GMBENCH_SHELF"); or return
     command -q gmbench; or return
-    command gmbench status --read-only --registry $registry --shelf $shelf 2>/dev/null \
-        | string match -rv '^ |^no mirrors$' | string replace -r ' .*' ''
+    command gmbench status --read-only --registry $registry --shelf $shelf 2>/dev/null
+end
+
+# The mirrors of the registry.
+function __gmbench_mirrors
+    __gmbench_status | string match -rv '^ |^no mirrors$' | string replace -r ' .*' ''
 end
 
 # The regular files of the folder that --shelf or the environment names.
@@ -88,6 +92,14 @@ function __gmbench_images
     for path in $shelf/*
         set -l name (string replace -r '.*/' '' $path)
         test -f $path -a ! -L $path; and string match -r '^[A-Za-z0-9._-]+$' -- $name
+    end
+end
+
+# Those that are no components by the registry.
+function __gmbench_spares
+    set -l members (__gmbench_status | string replace -rf '^ +(\S+).*' '$1')
+    for name in (__gmbench_images)
+        contains -- $name $members; or echo $name
     end
 end
 
@@ -235,9 +247,12 @@ __gmbench_option -l data -x -d '1 to 64 sectors, each as 1,024 digits of 0-9 and
 # The names of a command, each at its place.
 __gmbench_name 1 mirror insert remove deactivate activate forget rebuild configure destroy lost advance patch scrub \
     log replace write sync
-__gmbench_name 1 image clear dump mend
-__gmbench_name 2 image label insert remove deactivate activate rebuild advance sync
+__gmbench_name 1 spare clear
+__gmbench_name 1 image dump mend
+__gmbench_name 2 spare label insert
+__gmbench_name 2 image remove deactivate activate rebuild advance sync
 __gmbench_name 2 image replace
-__gmbench_name 2+ image lost adopt
-__gmbench_name 3 image replace
+__gmbench_name 2+ image lost
+__gmbench_name 2+ spare adopt
+__gmbench_name 3 spare replace
 # docs/words ends

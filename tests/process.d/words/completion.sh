@@ -25,6 +25,7 @@ for name in gm0 gm1; do
     dd if=/dev/zero of="$mirrored/images/$name.img" bs=512 count=4 2>/dev/null
     run do $registered "k-$name" label --mid "${name#gm}7" --did 1 "$name" "$name.img"
 done
+: >"$mirrored/images/spare.img"
 cp "$mirrored/registry" "$work/registry-before"
 
 # What the help says: the fourteen commands, and their words.
@@ -97,6 +98,11 @@ try_bash() {
     expect_offered 'bash: an option of label that is begun' "$(in_bash label --m)" --mid
     expect_offered 'bash: the mirror of an insert by itself' "$(in_bash insert $registered '')" 'gm0 gm1'
     expect_offered 'bash: no mirror of a label by itself' "$(in_bash label $registered gm)" ''
+    for words in 'insert gm0' 'label gm2' 'clear' 'adopt gm2' 'replace gm0 gm0.img' 'do k1 insert gm0'; do
+        expect_offered "bash: only what is no component behind $words" "$(in_bash ${words%% *} $registered \
+            $(expr "$words" : '[a-z]* *\(.*\)') '')" spare.img
+    done
+    expect_offered 'bash: all images of a sync' "$(in_bash sync $registered gm0 '')" 'gm0.img gm1.img spare.img'
     expect_offered 'bash: the image of a label by itself' "$(in_bash label --shelf images gm0 '')" 'a.img b.img'
     expect_offered 'bash: the same after options between the names' \
         "$(in_bash label gm0 --key k1 --shelf images --balance = load '')" 'a.img b.img'
@@ -185,6 +191,11 @@ else
         "write --first 2 $registered"; do
         expect_offered "zsh: the mirrors behind ${line%% *} ${line##* }" "$(in_zsh "gmbench $line ")" 'gm0 gm1'
     done
+    for line in "insert $registered gm0" "do $registered k1 label gm2" "clear $registered" \
+        "replace $registered gm0 gm0.img"; do
+        expect_offered "zsh: only what is no component behind ${line%% *}" "$(in_zsh "gmbench $line ")" spare.img
+    done
+    expect_offered 'zsh: all images of a sync' "$(in_zsh "gmbench sync $registered gm0 ")" 'gm0.img gm1.img spare.img'
     expect_offered 'zsh: no mirror of a label' "$(in_zsh "gmbench do $registered k1 label ")" ''
     expect_offered 'zsh: no mirror of a label by itself' "$(in_zsh "gmbench label $registered gm")" ''
     expect_offered 'zsh: the mirrors of the environment' "$(
@@ -244,6 +255,11 @@ if command -v fish >/dev/null; then
         "replace $registered" "write --first 2 $registered" "patch --data 00 $registered"; do
         expect_offered "fish: the mirrors behind ${line%% *} ${line##* }" "$(in_fish "gmbench $line ")" 'gm0 gm1'
     done
+    for line in "insert $registered gm0" "do $registered k1 label gm2" "clear $registered" \
+        "replace $registered gm0 gm0.img"; do
+        expect_offered "fish: only what is no component behind ${line%% *}" "$(in_fish "gmbench $line ")" spare.img
+    done
+    expect_offered 'fish: all images of a sync' "$(in_fish "gmbench sync $registered gm0 ")" 'gm0.img gm1.img spare.img'
     expect_offered 'fish: no mirror of a label' "$(in_fish "gmbench do $registered k1 label ")" ''
     expect_offered 'fish: no mirror of a label by itself' "$(in_fish "gmbench label $registered ")" ''
     expect_same 'fish: the registry is as it was' "$mirrored/registry" "$work/registry-before"
