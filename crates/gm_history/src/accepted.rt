@@ -1,5 +1,13 @@
 //! A command that was accepted, as the registry keeps it.
 
+ghost use Rattle.std.specs.Prelude.{◌≡◌, IfOk, IsTrue, pos};
+ghost use Rattle.std.specs.String.{string_bytes};
+ghost use Rattle.sqlite.specs.Order.{column};
+ghost use Rattle.sqlite.specs.declared.types.Value.TheVariants.{Int, Text};
+ghost use Rattle.gm_commands.specs.Commands.{is_key};
+ghost use Rattle.gm_state.specs.Rows.{copied_of, total_of};
+ghost use Rattle.gm_history.specs.Accepted.{IsAccepted};
+
 use gm_commands::is_key;
 use gm_metadata::is_label_byte;
 use gm_rows::{StoreFault, text_at, u32_at};
@@ -26,7 +34,10 @@ fn rows_with<S: Alter>(conn: &mut Connection<S>, number: u32) -> Result<Vec<Row>
 }
 
 // The key in the first column; `Unreadable` if it is none.
-fn key_in(row: &Row) -> Result<String, StoreFault> {
+fn key_in(row: &Row) -> Result<String, StoreFault>
+    ensures text { IfOk result (λ key. column row.now 0 ≡ Text (string_bytes key)) }
+    ensures key { IfOk result (λ key. IsTrue (is_key (string_bytes key))) }
+{
     let key = text_at(row, 0)?;
     if !is_key(key.as_str()) {
         return Err(StoreFault::Unreadable);
@@ -44,7 +55,9 @@ fn are_words(bytes: &[u8]) -> bool {
 }
 
 // The words in the second column; `Unreadable` if they have other characters than any command's.
-fn words_in(row: &Row) -> Result<String, StoreFault> {
+fn words_in(row: &Row) -> Result<String, StoreFault>
+    ensures { IfOk result (λ words. column row.now 1 ≡ Text (string_bytes words)) }
+{
     let words = text_at(row, 1)?;
     if !are_words(words.as_bytes()) {
         return Err(StoreFault::Unreadable);
@@ -53,7 +66,9 @@ fn words_in(row: &Row) -> Result<String, StoreFault> {
 }
 
 // A number of an answer: so many sectors, at most as many as an image has.
-fn sectors_in(row: &Row, at: usize) -> Result<u32, StoreFault> {
+fn sectors_in(row: &Row, at: usize) -> Result<u32, StoreFault>
+    ensures { IfOk result (λ n. column row.now at ≡ Int (pos n)) }
+{
     match u32_at(row, at) {
         Some(number) if number <= MAX_SECTORS => Ok(number),
         _ => Err(StoreFault::Unreadable),
@@ -61,7 +76,10 @@ fn sectors_in(row: &Row, at: usize) -> Result<u32, StoreFault> {
 }
 
 // The answer that two numbers say.
-fn reply_of(copied: u32, of_total: u32) -> Reply {
+fn reply_of(copied: u32, of_total: u32) -> Reply
+    ensures copied { copied_of result ≡ copied }
+    ensures total { total_of result ≡ of_total }
+{
     if copied == 0 && of_total == 0 {
         Reply::Plain
     } else {
@@ -73,7 +91,9 @@ fn reply_of(copied: u32, of_total: u32) -> Reply {
 }
 
 // The command with this number that a row shows.
-fn accepted_in(row: &Row, number: u32) -> Result<Accepted, StoreFault> {
+fn accepted_in(row: &Row, number: u32) -> Result<Accepted, StoreFault>
+    ensures { IfOk result (IsAccepted row.now number) }
+{
     let key = key_in(row)?;
     let words = words_in(row)?;
     let copied = sectors_in(row, 2)?;

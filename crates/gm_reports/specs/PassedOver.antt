@@ -1,5 +1,5 @@
 -- The text of what was passed over in a folder.
-use Rattle.std.specs.Prelude.{ℕ, ◌-◌, Bool, ◌||◌, nat_eq, nat_le, nat_lt, List, [], ◌∷◌, ◌++◌, codes, count_by, flat_map, replicate}
+use Rattle.std.specs.Prelude.{ℕ, ◌-◌, Bool, ◌||◌, nat_eq, nat_le, nat_lt, List, [], ◌∷◌, ◌++◌, codes, count_by, flat_map, replicate, if◌then◌else◌}
 use Rattle.std.specs.List.{list_any}
 use Rattle.std.specs.String.{string_bytes}
 use Rattle.gm_shelf.specs.declared.passed_over.PassedOver.{PassedOver}

@@ -1,13 +1,29 @@
-# As many commands as a registry takes, and large ones, told in little memory.
+# As many commands as a registry takes, and large ones, told in little more memory than any look at the registry takes.
 . "$helpers/bench.sh"
 
 # ---- as many commands as may be, and large ones, in little memory
 
-# Runs `log` on the registry of that bench, in 60,000 KB.
-log_in_little() {
-    (ulimit -v 60000 && exec timeout 120 "$gmbench" log --registry "$registry" "$@") \
+# Runs `log` on the registry of that bench, in so many KB, or in 60,000.
+log_in() {
+    kilobytes=$1
+    shift
+    (ulimit -v "$kilobytes" && exec timeout 120 "$gmbench" log --registry "$registry" "$@") \
         >"$work/output" 2>"$work/complaints"
     status=$?
+}
+log_in_little() {
+    log_in 60000 "$@"
+}
+
+# In how many KB a status is shown of that registry, without an opening.
+needed_for_status() {
+    kilobytes=16000
+    while [ "$kilobytes" -le 400000 ]; do
+        (ulimit -v "$kilobytes" && exec timeout 120 "$gmbench" status --read-only --registry "$registry" \
+            --shelf "$bench/images") >"$work/output" 2>"$work/complaints" && break
+        kilobytes=$((kilobytes + 2000))
+    done
+    echo "$kilobytes"
 }
 expect_told() {
     if [ "$status" = 0 ] && [ ! -s "$work/complaints" ] && cmp -s "$work/output" "$2"; then
@@ -49,10 +65,12 @@ if command -v sqlite3 >/dev/null; then
         head -n 1 "$work/wanted"
         seq 2 801 | sed 's/.*/& p& patch --first 0 --data aaaaaaaa... (64 sectors) gm0: ok/'
     } >"$work/wanted-patches"
-    log_in_little
-    expect_told 'large patches' "$work/wanted-patches"
+    # A page of 64 patches of 65,536 digits is 4 MB.
+    needed=$(needed_for_status)
+    log_in $((needed + 4000))
+    expect_told "large patches, in little more than a status takes ($needed KB)" "$work/wanted-patches"
     digits=$(head -c 65536 /dev/zero | tr '\0' a)
-    log_in_little --json
+    log_in $((needed + 16000)) --json
     {
         printf '{"commands":[{"answer":"ok","key":"k1","number":1,"words":["label","--mid","7","--did","1",'
         printf '"--balance","load","--slice","4096","--autosync","on","--failsync","on","--hardcode","off",'
@@ -64,7 +82,7 @@ if command -v sqlite3 >/dev/null; then
         done
         echo ']}'
     } >"$work/wanted-json"
-    expect_told 'large patches as JSON' "$work/wanted-json"
+    expect_told 'the same as JSON' "$work/wanted-json"
 else
     skip 'as many commands as may be' 'there is no sqlite3'
 fi
