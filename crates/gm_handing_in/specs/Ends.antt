@@ -1,5 +1,9 @@
 -- How the program ends by the end of its batch.
-use Rattle.std.specs.Prelude.{Result, Ok, Err, if◌then◌else◌}
+use Rattle.std.specs.Prelude.{◌≡◌, ℕ, List, Option, Some, Result, Ok, Err, if◌then◌else◌}
+use Rattle.sqlite_trees.specs.declared.store.Store.{Ghosts}
+use Rattle.gm_shelf.specs.declared.shelf.Shelf.{Ghosts as ShelfGhosts}
+use Rattle.gm_bench.specs.declared.bench.Bench.{Bench as TheBench}
+use Rattle.gm_front.specs.Batch.{AnswersBatch}
 use Rattle.gm_bench.specs.declared.fault.BenchFault.TheVariants as bench
 use Rattle.gm_front.specs.declared.answer_lines.BatchEnd.{BatchEnd}
 use Rattle.gm_front.specs.declared.answer_lines.BatchEnd.TheVariants.{Ended, Stopped}
@@ -21,3 +25,11 @@ abbrev pub status_of_end : Result BatchEnd FrontFault → Result Status Fault
 status_of_end (Ok (Ended refused)) = Ok (if refused then status.Refused else status.Done)
 status_of_end (Ok (Stopped fault)) = Err (Bench fault)
 status_of_end (Err fault) = Err (fault_of_front fault)
+
+-- what a batch owes whose input is a text, of which this comes
+pub record AnswersText {S H : Type 0} (s : Ghosts S) (h : ShelfGhosts H) (text : List ℕ)
+    (before now : Option (List ℕ)) (old new : TheBench S H) (result : Result Status Fault) : Type 0
+  where
+    pub end : Result BatchEnd FrontFault
+    pub answers : AnswersBatch s h (Some text) before now old new end
+    pub status : result ≡ status_of_end end

@@ -4,7 +4,7 @@ ghost use Rattle.std.specs.Prelude.{◌≡◌, length, vec_len, IfOk};
 ghost use Rattle.gm_bench.specs.Benches.{progress_of};
 ghost use Rattle.gm_bench.specs.Phases.{TakesCommands};
 ghost use Rattle.gm_process.specs.Statuses.{MayRefuse};
-ghost use Rattle.gm_handing_in.specs.Ends.{fault_of_front, status_of_end};
+ghost use Rattle.gm_handing_in.specs.Ends.{AnswersText, fault_of_front, status_of_end};
 
 use crate::forced_line::{ForcedLine, read_forced};
 use crate::guard::{Ground, Weighed, ask_weighed};
@@ -71,6 +71,8 @@ pub fn hand_in_text<S: Alter, H: Shelf, O: Write, E: Write>(
     explaining: &Explaining,
 ) -> Result<Status, Fault>
     requires { TakesCommands (progress_of bench.old) }
+    ensures answers { AnswersText S.Store H.Shelf text.now
+        (O.contents output.old) (O.contents output.new) bench.old bench.new result }
     ensures ends { IfOk result MayRefuse }
     ensures phase { TakesCommands (progress_of bench.new) }
 {
