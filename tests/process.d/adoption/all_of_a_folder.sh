@@ -74,7 +74,7 @@ grep -q 'b.img' "$work/output" && fail 'its mirror is whole without it' "$(cat "
 
 # ---- words
 
-for words in 'adopt --all gm0 a.img' 'adopt --all gm0' 'adopt gm0' 'adopt' 'label --all gm0 a.img'; do
+for words in 'adopt --all gm0 a.img' 'adopt --all gm0' 'adopt --all --key k1' 'adopt gm0' 'adopt' 'label --all gm0 a.img'; do
     at_bench $words
     [ "$status" = 2 ] && [ ! -s "$work/output" ] && pass "wrong words: $words" || fail "wrong words: $words" "status $status"
 done
