@@ -24,6 +24,7 @@ use gm_metadata::Label;
 use gm_process::{Meter, Status, Streams};
 use gm_shelf::{FileShelf, Shelf};
 use gm_state::State;
+use gm_unlike::standing_among;
 use sqlite::Alter;
 use std::io::{BufRead, Write};
 
