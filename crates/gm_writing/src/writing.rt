@@ -1,9 +1,11 @@
 //! The command itself.
 
-ghost use Rattle.std.specs.Prelude.{IfOk, OnOk};
+ghost use Rattle.std.specs.Prelude.{◌≤◌, ◌<◌, ◌-◌, ◌^◌, IfOk, OnOk};
 ghost use Rattle.gm_bench.specs.Benches.{progress_of};
 ghost use Rattle.gm_bench.specs.Phases.{TakesCommands};
 ghost use Rattle.gm_process.specs.Statuses.{MayRefuse};
+ghost use Rattle.gm_handing_in.specs.Ends.{AnswersText};
+ghost use Rattle.gm_writing.specs.Patches.{lines_of};
 
 use crate::obstacle::{Obstacle, say_kept};
 use crate::patches::Patches;
@@ -172,6 +174,10 @@ fn hand_in_at_once<S: Alter, H: Shelf, O: Write, E: Write>(
     explaining: &Explaining,
 ) -> Result<Status, Fault>
     requires { TakesCommands (progress_of bench.old) }
+    // The commands are answered in turn, as those of a batch that has their lines for its input.
+    ensures answers { part.begin ≤ part.end → part.end < 2 ^ 32 → OnOk result (AnswersText
+        S.Store H.Shelf (lines_of patches.now part.begin (part.end - part.begin))
+        (O.contents output.old) (O.contents output.new) bench.old bench.new result) }
     ensures ends { IfOk result MayRefuse }
     ensures phase { OnOk result (TakesCommands (progress_of bench.new)) }
 {
