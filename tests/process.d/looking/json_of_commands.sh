@@ -153,8 +153,8 @@ at_bench sync --quiet --json --unchecked
 expect_line 'a sync that is refused' 1 '{"answer":"refused","number":8}'
 mv "$work/away" "$bench/images/b.img"
 at_bench sync --quiet --json
-expect 'a sync' 0 '{"components":[{"mirror":"gm0","name":"a.img","state":"ACTIVE"},'\
-'{"mirror":"gm0","name":"b.img","state":"ACTIVE"}],"passed_over":[]}' ''
+expect 'a sync' 0 '{"amiss":[],"components":[{"mirror":"gm0","name":"a.img","state":"ACTIVE"},'\
+'{"mirror":"gm0","name":"b.img","state":"ACTIVE"}]}' ''
 
 # ---- what is pending, and is carried out
 
