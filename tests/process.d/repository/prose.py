@@ -25,7 +25,7 @@ WORDS = {
     "docs/DECISIONS.md": 6400,
     "docs/DEFINITIONS.md": 4600,
     "docs/GATE.md": 580,
-    "docs/PERFORMANCE.md": 1090,
+    "docs/PERFORMANCE.md": 1130,
     "docs/PROOF.md": 4800,
     "docs/REFERENCE.md": 11700,
     "docs/USE.md": 6400,
