@@ -12,6 +12,7 @@ mod writers;
 
 use gm_bench::{Bench, BenchFault, OpenFault, Phase};
 use gm_front::{BatchEnd, FrontFault, batch};
+use gm_opener::open_files;
 use gm_shelf::{FaultShelf, MemShelf, Shelf};
 use gm_test_media::{ALL, StoreBytes, shelf};
 use gm_words::status_text;
@@ -56,7 +57,7 @@ fn store_over<D: Disk + Drop>(
     files: Files<D>,
 ) -> Connection<FileStore<D>> {
     assert!(rt; files.may_be_used());
-    match Connection::open_files(rt.alloc(), files, Options::new(1)) {
+    match open_files(rt.alloc(), files, Options::new(1)) {
         Ok(store) => store,
         Err(_) => panic!(rt; "no store"),
     }

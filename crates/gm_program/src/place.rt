@@ -13,16 +13,16 @@ use gm_command_line::{Form, Renewing, Work};
 use gm_faults::{Fault, explain_loss};
 use gm_looking::{complain_of_pending, way_on};
 use gm_metadata::Label;
+use gm_opener::open_store;
 use gm_process::{HeldFolder, Patience, Place, Status, Streams};
 use gm_registry::StoreFault;
 use gm_registry_files::{
-    Obstacle, StoreCause, is_there, leave_out_registry, obstacle_to_opening, open_store,
-    store_cause,
+    Obstacle, StoreCause, is_there, leave_out_registry, obstacle_to_opening, store_cause,
 };
 use gm_renewing::renew;
 use gm_reports::Report;
 use gm_shelf::{FileId, FileShelf};
-use sqlite::{Alter, Connection, Error, ErrorCode, File, FileStore};
+use sqlite::{Alter, Connection, Error, ErrorCode, File, FileStore, Unknown};
 use sqlite_disk::Disk;
 use std::alloc::Global;
 use std::fs;
@@ -222,7 +222,7 @@ fn carry_out<I, O, E>(
     if let Some(found) = obstacle_to_opening(rt, registry, false) {
         return Err(Fault::from(found.fault));
     }
-    let store = open_store(rt, registry).map_err(StoreFault::from)?;
+    let store = open_store(rt, registry, Unknown).map_err(|(error, _)| StoreFault::from(error))?;
     let store = settled(rt, store, care, shelf, streams)?;
     Ok(store.close().map_err(StoreFault::from)?)
 }
@@ -299,7 +299,7 @@ fn open_patiently(
     let busy = Error::SqliteFailure(ErrorCode::DatabaseBusy);
     for _ in 0..u64::MAX {
         let before = file_at(rt, registry);
-        let opened = open_store(rt, registry);
+        let opened = open_store(rt, registry, Unknown).map_err(|(error, _)| error);
         if before.is_some() && before != file_at(rt, registry) {
             continue;
         }

@@ -3,11 +3,11 @@
 
 ghost use Rattle.std.specs.Prelude.{◌≡◌, IsTrue};
 
-use crate::opened::open_files;
 use crate::registry_files::file_fault;
 use crate::unopened::files_of;
 use gm_command_line::Recalling;
 use gm_history::{HistoryFault, tell_history};
+use gm_opener::open_files;
 use gm_registry::{Registry, StoreFault};
 use sqlite::{Alter, Connection, Files, Options};
 use sqlite_disk::Disk;
@@ -73,7 +73,10 @@ fn tell_files<D: Disk + Drop, O: Write>(
             let (told, store) = tell_store(alloc, store, asked, output);
             (told, store.into_store().close())
         }
-        Err((error, files)) => (Err(HistoryFault::Store(StoreFault::from(error))), files),
+        Err((error, left)) => {
+            let fault = HistoryFault::Store(StoreFault::from(error));
+            (Err(fault), left.into_files())
+        }
     }
 }
 

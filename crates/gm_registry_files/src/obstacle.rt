@@ -6,11 +6,11 @@ ghost use Rattle.gm_registry_files.specs.Obstacles.{obstacle_of};
 
 use crate::foreign::foreign_fault;
 use crate::log::{LogKind, kind_of_log};
-use crate::opened::is_blank;
 use crate::registry_files::file_fault;
 use crate::shared::{SharedFiles, disks_over, log_of, shared_files};
 use crate::unopened::records_of;
 use crate::unusable::{StoreCause, cause_of_none, is_no_database, store_cause};
+use gm_opener::is_blank;
 use gm_registry::StoreFault;
 use sqlite::{Error, ErrorCode};
 use std::fs;

@@ -6,9 +6,9 @@ ghost use Rattle.gm_state.specs.Rows.{Tables};
 ghost use Rattle.gm_registry.specs.Registry.{DiskKept, HasTables};
 ghost use Rattle.gm_registry_files.specs.Wholes.{IsTold};
 
-use crate::opened::open_files;
 use crate::registry_files::file_fault;
 use crate::shared::{disks_over, has_journal, shared_files};
+use gm_opener::open_files;
 use gm_overlay::OverlayDisk;
 use gm_pending::stopped_in;
 use gm_registry::{Loaded, Registry, StoreFault};
@@ -108,7 +108,7 @@ fn read_files<D: Disk + Drop>(
             let (whole, store) = read_store(alloc, store);
             (whole, store.into_store().close())
         }
-        Err((error, files)) => (Err(StoreFault::from(error)), files),
+        Err((error, left)) => (Err(StoreFault::from(error)), left.into_files()),
     }
 }
 

@@ -11,13 +11,14 @@ use crate::sayings::{Renewed, different_report, finished_report, hindered_report
 use gm_bench::{Bench, BenchFault};
 use gm_command_line::{Form, Renewing};
 use gm_faults::Fault;
+use gm_opener::open_store;
 use gm_process::{Streams, Trouble};
 use gm_registry::StoreFault;
-use gm_registry_files::{StoreCause, leave_out_registry, open_store};
+use gm_registry_files::{StoreCause, leave_out_registry};
 use gm_reports::Report;
 use gm_shelf::{FileShelf, Shelf};
 use gm_state::State;
-use sqlite::{Alter, Connection, Error, ErrorCode, File, FileStore, Files};
+use sqlite::{Alter, Connection, Error, ErrorCode, File, FileStore, Files, Unknown};
 use std::alloc::Global;
 use std::io::{self, ErrorKind, Write};
 
@@ -99,9 +100,9 @@ fn open_new<I, O, E>(
     made: &str,
     streams: &mut Streams<'_, I, O, E>,
 ) -> Result<Connection<FileStore<File>>, Fault> {
-    match open_store(rt, made) {
+    match open_store(rt, made, Unknown) {
         Ok(store) => Ok(store),
-        Err(error) => {
+        Err((error, _)) => {
             let cause = match error {
                 Error::SqliteFailure(ErrorCode::DatabaseBusy) => StoreCause::InUse,
                 Error::SqliteFailure(ErrorCode::DiskFull) => StoreCause::Full,

@@ -5,6 +5,7 @@ use super::faults::{goes_on, plays};
 use super::{DONE, LABEL, REFUSED, answers, got, images, must, serving, tell, try_open};
 use gm_bench::{Bench, BenchFault};
 use gm_front::BatchEnd;
+use gm_opener::open_files;
 use gm_shelf::{MemShelf, Shelf};
 use gm_test_media::{ALL, Calls, StoreBytes, must_be_alike};
 use sqlite::{Alter, Connection, Files, Options};
@@ -115,7 +116,7 @@ fn perform_on_files<D: Disk + Drop, H: Shelf + Drop>(
     job: Job,
 ) -> Left<D, H> {
     assert!(rt; files.may_be_used());
-    let store = match Connection::open_files(rt.alloc(), files, Options::new(1)) {
+    let store = match open_files(rt.alloc(), files, Options::new(1)) {
         Ok(store) => store,
         Err((_, left)) => {
             let files = left.into_files();

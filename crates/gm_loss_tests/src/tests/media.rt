@@ -3,6 +3,7 @@
 
 use super::{got, must};
 use gm_bench::{Answer, Bench, BenchFault, Phase, Without};
+use gm_opener::open_files;
 use gm_shelf::{FaultShelf, MemShelf, Shelf};
 use gm_test_bench::{must_be_left, try_accept, try_open, try_run, try_view};
 use gm_test_media::{ALL, Calls, StoreBytes, add, label, sector};
@@ -199,7 +200,7 @@ fn perform_on_files<D: Disk + Drop, H: Shelf + Drop>(
     job: Job,
 ) -> (Came, bool, Files<D>, H) {
     assert!(rt; files.may_be_used());
-    let store = match Connection::open_files(rt.alloc(), files, Options::new(1)) {
+    let store = match open_files(rt.alloc(), files, Options::new(1)) {
         Ok(store) => store,
         Err((_, left)) => {
             return (
@@ -267,7 +268,7 @@ pub(super) fn must_be_of_a_stop(
 ) {
     let files = got(rt, store.files(rt.alloc(), ALL));
     assert!(rt; files.may_be_used());
-    let Ok(mut store) = Connection::open_files(rt.alloc(), files, Options::new(1)) else {
+    let Ok(mut store) = open_files(rt.alloc(), files, Options::new(1)) else {
         panic!(rt; "no store");
     };
     let mut shelf = copy_of(rt, shelf);

@@ -5,6 +5,7 @@ use super::calls::{accept, accepted, load, number, open, settle};
 use super::stored::stop_within_remove;
 use super::{got, inserts, labels, must};
 use gm_changes::Change;
+use gm_opener::open_files;
 use gm_registry::Registry;
 use gm_test_media::{ALL, Calls, StoreBytes};
 use sqlite::{Alter, Connection, Files, Options};
@@ -122,7 +123,7 @@ fn perform_on_files<D: Disk + Drop>(
     if !files.may_be_used() {
         return (NOTHING, true, files);
     }
-    let store = match Connection::open_files(rt.alloc(), files, Options::new(1)) {
+    let store = match open_files(rt.alloc(), files, Options::new(1)) {
         Ok(store) => store,
         Err((_, left)) => return (NOTHING, true, left.into_files()),
     };

@@ -3,6 +3,7 @@
 
 use super::{COPIED, KEYS, accepted, got, held, inserted, kept, must, unlike};
 use gm_bench::{Answer, BenchFault, SeriesAnswer};
+use gm_opener::open_files;
 use gm_shelf::{FaultShelf, MemShelf, Shelf};
 use gm_state::Reply;
 use gm_test_bench::{INSERT, of_two, open, try_open, try_series, try_settle_waiting};
@@ -225,7 +226,7 @@ fn run_on_files(
 ) -> Left {
     let files = got(rt, bytes.files(rt.alloc(), calls));
     assert!(rt; files.may_be_used());
-    let store = match Connection::open_files(rt.alloc(), files, Options::new(1)) {
+    let store = match open_files(rt.alloc(), files, Options::new(1)) {
         Ok(store) => store,
         Err((_, left)) => {
             return Left {
@@ -253,7 +254,7 @@ fn run_on_files(
 fn inserted_in_files(rt: &(impl Abort + AllocGlobal)) -> (StoreBytes, MemShelf) {
     let files = got(rt, StoreBytes::new(rt.alloc()).files(rt.alloc(), ALL));
     assert!(rt; files.may_be_used());
-    let store = match Connection::open_files(rt.alloc(), files, Options::new(1)) {
+    let store = match open_files(rt.alloc(), files, Options::new(1)) {
         Ok(store) => store,
         Err(_) => panic!(rt; "no store"),
     };
@@ -268,7 +269,7 @@ fn inserted_in_files(rt: &(impl Abort + AllocGlobal)) -> (StoreBytes, MemShelf) 
 fn found_in_files(rt: &(impl Abort + AllocGlobal), bytes: &StoreBytes, shelf: MemShelf) -> u64 {
     let files = got(rt, bytes.files(rt.alloc(), ALL));
     assert!(rt; files.may_be_used());
-    match Connection::open_files(rt.alloc(), files, Options::new(1)) {
+    match open_files(rt.alloc(), files, Options::new(1)) {
         Ok(store) => all_or_none(rt, store, shelf),
         Err(_) => panic!(rt; "no store"),
     }

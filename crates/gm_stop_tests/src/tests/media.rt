@@ -5,6 +5,7 @@ use super::found::{accepted, mirrors, with_images};
 use super::scripts::{Script, key_at, reply_to};
 use super::{got, must};
 use gm_bench::{Answer, Bench, BenchFault, Phase};
+use gm_opener::open_files;
 use gm_refusals::{CallRefusal, Refusal};
 use gm_shelf::{MemShelf, Shelf};
 use gm_test_bench::{must_be_left, try_accept, try_apply, try_open, try_settle};
@@ -216,7 +217,7 @@ pub(super) fn perform_on_files<D: Disk + Drop, H: Shelf + Drop>(
     job: Job,
 ) -> Left<D, H> {
     assert!(rt; files.may_be_used());
-    let store = match Connection::open_files(rt.alloc(), files, Options::new(1)) {
+    let store = match open_files(rt.alloc(), files, Options::new(1)) {
         Ok(store) => store,
         Err((_, left)) => {
             return Left {
@@ -290,7 +291,7 @@ pub(super) fn look(
 ) -> Found {
     let files = got(rt, store.files(rt.alloc(), ALL));
     assert!(rt; files.may_be_used());
-    match Connection::open_files(rt.alloc(), files, Options::new(1)) {
+    match open_files(rt.alloc(), files, Options::new(1)) {
         Ok(store) => look_at(rt, store, copy_of(rt, shelf), script, done),
         Err(_) => panic!(rt; "no store"),
     }
