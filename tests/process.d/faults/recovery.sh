@@ -6,8 +6,6 @@
 # What the program makes of three commands, of which the stored registry has the last one pending. The registries are the
 # same byte for byte once it was carried out, and were so before but for the page of the table `intents`.
 fresh_bench three-commands
-# One that is made now has smaller pages than the stored one.
-cp "$top/examples/empty.sqlite" "$registry"
 batch "$label$insert"
 expect 'the commands before the stopped one' 0 "$(lines 'k1 ok 1\nk2 ok 2')" ''
 expect_images 'the stored sectors are those of the insertion' pending-a pending-b
@@ -16,7 +14,7 @@ expect 'the command that is stopped elsewhere' 0 'k3 ok 3' ''
 expect_images 'a removal that is carried out at once' fresh bare
 cp "$registry" "$work/kept-registry"
 other_bytes=$(cmp -l "$top/examples/pending.sqlite" "$work/kept-registry" 2>&1 |
-    awk '$1 <= 32768 || $1 > 36864')
+    awk '$1 <= 16384 || $1 > 18432')
 [ -z "$other_bytes" ] && pass 'the stored registry has other bytes in one page alone' ||
     fail 'the stored registry has other bytes in one page alone' "$other_bytes"
 stopped_remove pending
