@@ -8,7 +8,7 @@ use Rattle.sqlite.specs.declared.file.Leftover.{Leftover}
 use Rattle.sqlite.specs.declared.file.Leftover.TheVariants as left
 use Rattle.sqlite_disk.specs.declared.Disk.{Ghosts}
 use Rattle.sqlite_disk.specs.declared.Files.{Files}
-use Rattle.sqlite_pool.specs.Stored.{stored_size, is_summed, IsUnreadable, StandsAs}
+use Rattle.sqlite_pool.specs.Stored.{stored_size, IsUnreadable, StandsAs}
 use Rattle.sqlite_store.specs.Unopened.{state_of}
 use Rattle.sqlite_store.specs.declared.store.FileStore.{FileStore}
 use Rattle.sqlite_wal.proofs.CleanLemmas.{both_clean}
@@ -16,7 +16,8 @@ use Rattle.sqlite_wal.specs.Files.{outcomes}
 use Rattle.sqlite_wal.specs.Reads.{OnlyReads}
 use Rattle.sqlite_wal.specs.Recovery.{Image}
 
-module _ {D : Type 0} {g : Ghosts D} (old new : Files D) (log : OnlyReads g old.log new.log) (db : OnlyReads g old.db new.db) where
+module _ {D : Type 0} {g : Ghosts D} (old new : Files D) (log : OnlyReads g old.log new.log)
+    (db : OnlyReads g old.db new.db) where
   same : image_of g new ≡ image_of g old
   same = same_image log db
 

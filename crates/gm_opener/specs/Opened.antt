@@ -1,9 +1,9 @@
 -- What an opening finds in two files, and what it leaves of them if it fails.
-use Rattle.std.specs.Prelude.{◌≡◌, ◌⊎◌, ℕ, ◌<◌, ◌^◌, [], IsTrue}
-use Rattle.sqlite.specs.Files.{file_state, image_of, Finds, HoldsDatabase, IsEmpty, LeavesFiles}
-use Rattle.sqlite.specs.Held.{Held}
+use Rattle.std.specs.Prelude.{◌≡◌, ◌⊎◌, IsTrue}
+use Rattle.sqlite.specs.Files.{file_state, image_of, Finds, HoldsDatabase, IsEmpty, IsOpened, LeavesFiles}
+use Rattle.sqlite.specs.Held.{Held, IsNew}
 use Rattle.sqlite.specs.Start.{FindsIn}
-use Rattle.sqlite.specs.State.{State}
+use Rattle.sqlite.specs.State.{HasCleanDisk, State}
 use Rattle.sqlite.specs.Steps.{IsFresh}
 use Rattle.sqlite.specs.declared.error.Error.{Error}
 use Rattle.sqlite.specs.declared.error.Error.TheVariants.{SqliteFailure}
@@ -13,7 +13,7 @@ use Rattle.sqlite.specs.declared.file.Leftover.TheVariants as left
 use Rattle.sqlite_disk.specs.declared.Disk.{Ghosts}
 use Rattle.sqlite_disk.specs.declared.Files.{Files}
 use Rattle.sqlite_pool.specs.Opening.{IsBlankFile}
-use Rattle.sqlite_store.specs.FileStore.{recovers, view}
+use Rattle.sqlite_store.specs.FileStore.{is_shielded, recovers, view}
 use Rattle.sqlite_store.specs.Unopened.{state_of}
 use Rattle.sqlite_store.specs.declared.store.FileStore.{FileStore}
 use Rattle.sqlite_trees.specs.Tree.{Trees}
@@ -45,11 +45,18 @@ module _ {D : Type 0} {g : Ghosts D} where
     pub fresh : IsFresh (view it)
     pub is_open : IsTrue (view it).is_open
     pub empty : IsEmpty (view it).trees
+    pub shielded : is_shielded it
 
   pub record IsMadeIn (files : Files D) (c : Held (FileStore D g)) : Type 0 where
     pub clean : AreClean g files.log files.db
     pub blank : IsBlank (image_of g files)
     pub empty : IsEmpty (file_state c).committed.trees
+
+  -- a connection that was just opened, whose later reads are tested
+  pub record IsReady (c : Held (FileStore D g)) : Type 0 where
+    pub opened : HasCleanDisk (file_state c) → IsOpened c
+    pub guarded : HasCleanDisk (file_state c) → (file_state c).IsShielded
+    pub fresh : IsNew c
 
   abbrev pub Takes : Files D → Held (FileStore D g) → Type 0
   Takes files c = IsMadeIn files c ⊎ Finds files c

@@ -1,9 +1,8 @@
 //! The database of the two files at a path.
 
 ghost use Rattle.std.specs.Prelude.{◌≡◌, ◌⊎◌, true, false, None, IsTrue, IfErr, IfOk, IfSome};
-ghost use Rattle.gm_opener.specs.Opened.{IsUnopened, Leaves, TakesIn};
-ghost use Rattle.sqlite.specs.Files.{file_state, IsCleanLeft, IsOpened};
-ghost use Rattle.sqlite.specs.Held.{IsNew};
+ghost use Rattle.gm_opener.specs.Opened.{IsReady, IsUnopened, Leaves, TakesIn};
+ghost use Rattle.sqlite.specs.Files.{file_state, IsCleanLeft};
 ghost use Rattle.sqlite.specs.Opening.{is_open_error};
 ghost use Rattle.sqlite.specs.State.{HasCleanDisk};
 ghost use Rattle.sqlite_std_file.specs.File.{file_is_usable, IsFresh};
@@ -56,11 +55,9 @@ pub fn open_store<S: Start>(
     path: &str,
     start: S,
 ) -> Result<Connection<FileStore<FileFrom<S>>>, (Error, Option<Leftover<FileFrom<S>>>)>
-    ensures opened { IfOk result (λ c. HasCleanDisk (file_state c) → IsOpened c) }
+    ensures ready { IfOk result IsReady }
     ensures found { IfOk result (λ c. HasCleanDisk (file_state c)
         → TakesIn (image_at S.Start) (file_state c)) }
-    ensures fresh { IfOk result IsNew }
-    ensures guarded { IfOk result (λ c. HasCleanDisk (file_state c) → (file_state c).IsShielded) }
     ensures named { IfErr result (λ e. IsTrue (is_open_error e.0)) }
     ensures unopened { IfErr result (λ e. e.1 ≡ None → IsUnopened e.0) }
     ensures unharmed { IfErr result (λ e. IfSome e.1 (λ left.

@@ -1,12 +1,11 @@
 //! A database without a table, made in files that hold none.
 
 ghost use Rattle.std.specs.Prelude.{◌≡◌, [], IsTrue, IfErr, IfOk};
-ghost use Rattle.gm_opener.specs.Opened.{IsBlank, IsMade, IsMadeIn, Leaves};
-ghost use Rattle.sqlite.specs.Files.{file_state, image_of, IsCleanLeft, IsOpened};
-ghost use Rattle.sqlite.specs.Held.{IsNew};
+ghost use Rattle.gm_opener.specs.Opened.{IsBlank, IsMade, IsMadeIn, IsReady, Leaves};
+ghost use Rattle.sqlite.specs.Files.{file_state, image_of, IsCleanLeft};
 ghost use Rattle.sqlite.specs.Opening.{is_open_error};
 ghost use Rattle.sqlite.specs.State.{HasCleanDisk};
-ghost use Rattle.sqlite_store.specs.FileStore.{is_shielded, view};
+ghost use Rattle.sqlite_store.specs.FileStore.{view};
 ghost use Rattle.sqlite_store.specs.Unopened.{files_of, state_of, wanted_by, AreUsable, Creates};
 ghost use Rattle.sqlite_wal.specs.Reads.{AreClean};
 
@@ -56,7 +55,6 @@ fn create<D: Disk>(files: Unopened<D>) -> Result<FileStore<D>, (Error, Unopened<
     requires usable { AreUsable files }
     requires none { wanted_by files ≡ [] }
     ensures made { IfOk result (λ store. IsTrue (view store).is_clean → IsMade store) }
-    ensures guarded { IfOk result (λ store. IsTrue (view store).is_clean → is_shielded store) }
     ensures clean { IfOk result (λ store. IsTrue (view store).is_clean
         → IsTrue (state_of files).is_clean) }
     ensures named { IfErr result (λ e. IsTrue (is_open_error e.0)) }
@@ -84,7 +82,6 @@ fn make_store<D: Disk>(
     requires db { IsTrue (D.Disk.is_usable files.db) }
     requires blank { AreClean D.Disk files.log files.db → IsBlank (image_of D.Disk files) }
     ensures made { IfOk result (λ store. IsTrue (view store).is_clean → IsMade store) }
-    ensures guarded { IfOk result (λ store. IsTrue (view store).is_clean → is_shielded store) }
     ensures clean { IfOk result (λ store. IsTrue (view store).is_clean
         → AreClean D.Disk files.log files.db) }
     ensures named { IfErr result (λ e. IsTrue (is_open_error e.0)) }
@@ -111,10 +108,8 @@ pub(crate) fn make<D: Disk + Drop>(
     requires log { IsTrue (D.Disk.is_usable files.log) }
     requires db { IsTrue (D.Disk.is_usable files.db) }
     requires blank { AreClean D.Disk files.log files.db → IsBlank (image_of D.Disk files) }
-    ensures opened { IfOk result (λ c. HasCleanDisk (file_state c) → IsOpened c) }
+    ensures ready { IfOk result IsReady }
     ensures made { IfOk result (λ c. HasCleanDisk (file_state c) → IsMadeIn files c) }
-    ensures fresh { IfOk result IsNew }
-    ensures guarded { IfOk result (λ c. HasCleanDisk (file_state c) → (file_state c).IsShielded) }
     ensures named { IfErr result (λ e. IsTrue (is_open_error e.0)) }
     ensures unharmed { IfErr result (λ e. IsCleanLeft e.1 → Leaves files e.1) }
 {

@@ -1,9 +1,8 @@
 //! The database of two files, opened, or made if they hold none.
 
 ghost use Rattle.std.specs.Prelude.{IsTrue, IfErr, IfOk};
-ghost use Rattle.gm_opener.specs.Opened.{Leaves, Takes};
-ghost use Rattle.sqlite.specs.Files.{file_state, IsCleanLeft, IsOpened};
-ghost use Rattle.sqlite.specs.Held.{IsNew};
+ghost use Rattle.gm_opener.specs.Opened.{IsReady, Leaves, Takes};
+ghost use Rattle.sqlite.specs.Files.{file_state, IsCleanLeft};
 ghost use Rattle.sqlite.specs.Opening.{is_open_error};
 ghost use Rattle.sqlite.specs.State.{HasCleanDisk};
 
@@ -22,10 +21,8 @@ pub fn open_files<D: Disk + Drop>(
 ) -> Result<Connection<FileStore<D>>, (Error, Leftover<D>)>
     requires log { IsTrue (D.Disk.is_usable files.log) }
     requires db { IsTrue (D.Disk.is_usable files.db) }
-    ensures opened { IfOk result (λ c. HasCleanDisk (file_state c) → IsOpened c) }
+    ensures ready { IfOk result IsReady }
     ensures found { IfOk result (λ c. HasCleanDisk (file_state c) → Takes files c) }
-    ensures fresh { IfOk result IsNew }
-    ensures guarded { IfOk result (λ c. HasCleanDisk (file_state c) → (file_state c).IsShielded) }
     ensures named { IfErr result (λ e. IsTrue (is_open_error e.0)) }
     ensures unharmed { IfErr result (λ e. IsCleanLeft e.1 → Leaves files e.1) }
 {

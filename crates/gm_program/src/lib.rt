@@ -8,7 +8,7 @@
 //! `before_opening.rt` has looked at the images that pending writes name, by `gm_pending` and
 //! `gm_in_use`; `recover.rt` has the command `recover`. The other commands are in crates of their
 //! own: `gm_dump`, `gm_looking`, `gm_filling`, `gm_handing_in`, `gm_by_itself`, `gm_replacing`,
-//! `gm_mending` and `gm_writing`.
+//! `gm_mending`, `gm_writing`, `gm_renewing` and `gm_recalling`.
 #![tactic(auto)]
 
 mod before_opening;

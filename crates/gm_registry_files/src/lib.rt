@@ -4,9 +4,10 @@
 //! `registry_files.rt` knows which files are a registry's: its own, and those that SQLite puts
 //! beside it, which `beside.rt` names. `obstacle.rt` says what is in the way before any of them is
 //! opened to be written: another file with the name of the log (`log.rt`), or a database of another
-//! program (`foreign.rt`). `unopened.rt` reads them by an overlay, so that nothing is written, under
-//! the locks of `shared.rt`; so does `history.rt`, which tells the accepted commands. `unusable.rt` says why a registry can't be opened. `laws.rt` has what
-//! holds of the first bytes of logs.
+//! program (`foreign.rt`). `unopened.rt` reads them by an overlay, so that nothing is written,
+//! under the locks of `shared.rt`; so does `history.rt`, which tells the accepted commands.
+//! `unusable.rt` says why a registry can't be opened. `laws.rt` has what holds of the first bytes
+//! of logs.
 #![tactic(auto)]
 
 mod beside;

@@ -1,2 +1,3 @@
 mod FactsShown
 mod Leading
+mod Takes

@@ -1,3 +1,4 @@
 pub mod Judged
 pub mod Shown
+pub mod Taking
 pub mod Ways

@@ -1,8 +1,7 @@
-use Rattle.std.proofs.Common.{List, ℕ, Bool, cond, ◌≡◌, ap₂, subst, inl, inr}
+use Rattle.std.proofs.Common.{List, ℕ, Bool, cond, ap₂, subst, inl, inr}
 use Rattle.gm_opener.specs.Opened.{TakesIn}
 use Rattle.sqlite.specs.Files.{file_state}
 use Rattle.sqlite_disk.specs.Events.{Event, replay}
-use Rattle.sqlite_wal.specs.Files.{image_at}
 use Rattle.sqlite_wal.specs.Recovery.{Image}
 use Rattle.gm_opener.proofs.at_path.open_store.Goals as goal
 
@@ -18,7 +17,8 @@ returns-in-Ok-open_files-clause-found g c clean =
     let (log, db) = c.in-Ok-files_at.ensures.fresh in
     let seen = held g.S.Start.log g.S.Start.db in
     let same = ap₂ both (ap₂ seen log.0 log.1) (ap₂ seen db.0 db.1) in
-    subst (λ i. TakesIn i (file_state c.in-Ok-open_files.store)) same (elim (c.in-Ok-open_files.ensures.found clean) [
+    let s = file_state c.in-Ok-open_files.store in
+    subst (λ i. TakesIn i s) same (elim (c.in-Ok-open_files.ensures.found clean) [
       | inl made ↦ inl (made.blank, made.empty)
       | inr found ↦ inr (record { holds = found.holds; reads = found.reads })
     ])

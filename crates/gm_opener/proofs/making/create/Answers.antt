@@ -9,8 +9,14 @@ returns-in-Ok-clause-made g c clean =
     let it = c.in-Ok.ensures in
     let sure = no_doubt _ clean in
     record {
-      fresh = record { sound = it.ready.sound sure; numbered = it.numbered; clean = it.ready.clean; unmarked = it.ready.unmarked };
+      fresh = record {
+        sound = it.ready.sound sure;
+        numbered = it.numbered;
+        clean = it.ready.clean;
+        unmarked = it.ready.unmarked;
+      };
       is_open = it.ready.is_open sure;
+      shielded = it.guarded clean;
       empty = (
         λ tree low. ap (λ d. d tree) it.ready.clean ∙ it.empty clean tree low,
         rw clean (catalog_rows _ _ _ ∙ ap (listed_from 0) (it.schema ∙ c.requires.none)),

@@ -14,10 +14,22 @@ returns-in_err-store-clause-unharmed g c =
 pub over-requires : goal.over-requires
 over-requires g c none = (c.in_ok-store.ensures.made (sure _ none)).fresh
 
+pub returns-in-Ok-clause-ready : goal.returns-in-Ok-clause-ready
+returns-in-Ok-clause-ready g c =
+    let over = c.in-Ok.ensures in
+    let was = (shown c.in_ok-store.store).is_clean in
+    record {
+      opened = over.opens;
+      guarded = λ now.
+          over.shield (c.in_ok-store.ensures.made (sure was (omega (arith, now, over.clean)))).shielded;
+      fresh = over.fresh;
+    }
+
 pub returns-in-Ok-clause-made : goal.returns-in-Ok-clause-made
 returns-in-Ok-clause-made g c now =
-    let still = sure (shown c.in_ok-store.store).is_clean (omega (arith, c.in-Ok.ensures.clean)) in
-    let trees = sym (ap (λ d. d.trees) (c.in-Ok.ensures.opens now).0.clean) ∙ c.in-Ok.ensures.trees now in
+    let over = c.in-Ok.ensures in
+    let still = sure (shown c.in_ok-store.store).is_clean (omega (arith, now, over.clean)) in
+    let trees = sym (ap (λ d. d.trees) (over.opens now).0.clean) ∙ over.trees now in
     let clean = c.in_ok-store.ensures.clean still in
     record {
       clean = clean;
@@ -25,20 +37,17 @@ returns-in-Ok-clause-made g c now =
       empty = subst IsEmpty (sym trees) (c.in_ok-store.ensures.made still).empty;
     }
 
-pub returns-in-Ok-clause-guarded : goal.returns-in-Ok-clause-guarded
-returns-in-Ok-clause-guarded g c now =
-    let still = sure (shown c.in_ok-store.store).is_clean (omega (arith, c.in-Ok.ensures.clean)) in
-    c.in-Ok.ensures.shield (c.in_ok-store.ensures.guarded still)
-
 pub returns-in-Err-clause-unharmed : goal.returns-in-Err-clause-unharmed
 returns-in-Err-clause-unharmed g c late =
+    let store = c.in_ok-store.store in
+    let quiet = c.in-Err.ensures.unharmed in
     let now = no_doubt _ late in
-    let still = sure (shown c.in_ok-store.store).is_clean (omega (arith, now, c.in-Err.ensures.unharmed.clean)) in
+    let still = sure (shown store).is_clean (omega (arith, now, quiet.clean)) in
     let made = c.in_ok-store.ensures.made still in
+    let stays = g.met.D.Disk.seen_may_stay in
     inl (
       c.requires.blank (c.in_ok-store.ensures.clean still),
       λ found may.
-          let is = settled_at c.in_ok-store.store g.met.D.Disk.seen_may_stay found made.is_open (c.in-Err.ensures.unharmed.outcomes found may)
-          ∙ sym made.fresh.clean in
-          subst IsEmpty (sym is) made.empty,
+          let is = settled_at store stays found made.is_open (quiet.outcomes found may) in
+          subst IsEmpty (sym (is ∙ sym made.fresh.clean)) made.empty,
     )
