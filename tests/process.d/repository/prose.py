@@ -21,7 +21,7 @@ from documents import SPAN, blank, lines_of, pages_of, text_of
 WORDS = {
     "README.md": 750,
     "CHANGELOG.md": 820,
-    "docs/ARCHITECTURE.md": 3500,
+    "docs/ARCHITECTURE.md": 3700,
     "docs/DECISIONS.md": 6400,
     "docs/DEFINITIONS.md": 4600,
     "docs/GATE.md": 580,
