@@ -1,1 +1,3 @@
+mod Batches
 mod Cuts
+mod PatchLines
