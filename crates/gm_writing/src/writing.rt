@@ -5,6 +5,7 @@ ghost use Rattle.gm_bench.specs.Benches.{progress_of};
 ghost use Rattle.gm_bench.specs.Phases.{TakesCommands};
 ghost use Rattle.gm_process.specs.Statuses.{MayRefuse};
 ghost use Rattle.gm_handing_in.specs.Ends.{AnswersText};
+ghost use Rattle.gm_writing.specs.Handed.{HandsIn};
 ghost use Rattle.gm_writing.specs.Patches.{lines_of};
 
 use crate::obstacle::{Obstacle, say_kept};
@@ -201,9 +202,15 @@ fn hand_in_several<S: Alter, H: Shelf, I, O: Write, E: Write>(
     streams: &mut Streams<'_, I, O, E>,
 ) -> Result<Status, Fault>
     requires { TakesCommands (progress_of bench.old) }
+    // Some of them are answered in turn; all, if none is refused.
+    ensures answers { part.begin ≤ part.end → part.end < 2 ^ 32 → OnOk result (HandsIn
+        S.Store H.Shelf patches.now part.begin part.end
+        (O.contents streams.old.output.now) (O.contents streams.new.output.now)
+        bench.old bench.new result) }
     ensures ends { IfOk result MayRefuse }
     ensures phase { OnOk result (TakesCommands (progress_of bench.new)) }
 {
+    let (output, explaining) = (&mut *streams.output, &streams.explaining);
     let mut meter = Meter::new(rt, streams.complaints, part.style);
     for turn in 0..part.end.saturating_sub(part.begin).div_ceil(AT_ONCE) {
         let from = part.begin.saturating_add(turn.saturating_mul(AT_ONCE));
@@ -215,8 +222,7 @@ fn hand_in_several<S: Alter, H: Shelf, I, O: Write, E: Write>(
         };
         // Each answer is a line of its own, so a bar is taken away before them.
         meter.end();
-        let (output, complaints) = (&mut *streams.output, &mut *meter.complaints);
-        let explaining = &streams.explaining;
+        let complaints = &mut *meter.complaints;
         let status = hand_in_at_once(rt, patches, now, bench, output, complaints, explaining)?;
         if status != Status::Done {
             return Ok(Status::Refused);
