@@ -2,9 +2,8 @@
 //!
 //! `way.rt` says in which order that is done (`gm_ways`), and `replacing.rt` does it. `keys.rt`
 //! says which of its commands were accepted before, `plan.rt` what those that are left come to,
-//! and `questions.rt` asks about what they take away. `taking.rt` takes the steps:
-//! `commands.rt` hands in their commands, and `filled.rt` fills the new image. `sayings.rt` has the
-//! sentences.
+//! and `questions.rt` asks about what they take away. `commands.rt` hands them in, and `filled.rt`
+//! fills the new image. `sayings.rt` has the sentences.
 #![tactic(auto)]
 
 mod commands;
@@ -15,7 +14,6 @@ mod questions;
 mod replacing;
 mod sayings;
 mod stopped;
-mod taking;
 mod way;
 
 pub use replacing::replace;

@@ -6,6 +6,7 @@ ghost use Rattle.gm_bench.specs.Phases.{TakesCommands};
 ghost use Rattle.gm_process.specs.Statuses.{MayRefuse};
 
 use crate::commands::hand_in_step;
+use crate::filled::fill_new;
 use crate::keys::{KeyRefused, left_of};
 use crate::plan::{Plan, plan_of};
 use crate::questions::checks_left;
@@ -13,7 +14,6 @@ use crate::sayings::{
     Refused, say_no_room, say_not_done, say_refused, say_removed_first, say_unfilled,
 };
 use crate::stopped::Stopped;
-use crate::taking::Taking;
 use crate::way::{Going, way_of};
 use gm_bench::Bench;
 use gm_by_itself::{first_key, following_key};
@@ -23,13 +23,49 @@ use gm_faults::Fault;
 use gm_process::{Status, Streams};
 use gm_refusals::CallRefusal;
 use gm_shelf::Shelf;
-use gm_ways::{Act, Step, Stop, Way, gives_up_first, stop_of, take_steps};
+use gm_ways::{Act, Step, Stop, Way, gives_up_first, stop_of};
 use sqlite::Alter;
 use std::alloc::{AllocError, Global};
 use std::io::{BufRead, Write};
 
 // The number of the last command that a replacement may take.
 const LAST: usize = 3;
+
+// Takes a step: hands in its command, or fills the new image.
+fn take_step<S: Alter, H: Shelf, I: BufRead, O: Write, E: Write>(
+    rt: &HostRuntime,
+    asked: &Replacing<'_>,
+    first: &str,
+    step: Step,
+    bench: &mut Bench<S, H>,
+    streams: &mut Streams<'_, I, O, E>,
+) -> Result<(), Stopped>
+    requires { TakesCommands (progress_of bench.old) }
+    ensures { OnOk result (TakesCommands (progress_of bench.new)) }
+{
+    match step {
+        Step::HandIn { act, number } => hand_in_step(rt, asked, first, act, number, bench, streams),
+        Step::Fill => fill_new(rt, asked, bench, streams),
+    }
+}
+
+// Takes the steps in their order, up to one that is refused.
+fn go<S: Alter, H: Shelf, I: BufRead, O: Write, E: Write>(
+    rt: &HostRuntime,
+    asked: &Replacing<'_>,
+    first: &str,
+    steps: &[Step],
+    bench: &mut Bench<S, H>,
+    streams: &mut Streams<'_, I, O, E>,
+) -> Result<(), Stopped>
+    requires { TakesCommands (progress_of bench.old) }
+    ensures { OnOk result (TakesCommands (progress_of bench.new)) }
+{
+    for step in steps {
+        take_step(rt, asked, first, *step, bench, streams)?;
+    }
+    Ok(())
+}
 
 // Whether a key is so long that none follows from it.
 fn is_too_long(alloc: Global, first: &str) -> Result<bool, AllocError> {
@@ -186,14 +222,7 @@ fn replace_under<S: Alter, H: Shelf, I: BufRead, O: Write, E: Write>(
         checks,
         ..*replacing
     };
-    let mut taking = Taking {
-        rt,
-        asked: &asked,
-        first,
-        bench,
-        streams,
-    };
-    take_steps(going.way, &mut taking)
+    go(rt, &asked, first, going.way.steps(), bench, streams)
 }
 
 /// Puts an image in the place of another, or goes on with that, and prints the answers of the

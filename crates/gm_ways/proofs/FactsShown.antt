@@ -1,9 +1,9 @@
 -- Facts that were gathered say what a shelf shows.
-use Rattle.std.proofs.Common.{◌≡◌, ◌∙◌, ◌⊎◌, inl, inr, ℕ, ◌+◌, ◌<◌, List, [], ◌∷◌, ◌++◌, find, take, length, get_or, Some, None, refl, sym, ap, subst}
+use Rattle.std.proofs.Common.{◌≡◌, ◌∙◌, ◌⊎◌, inl, inr, ℕ, ◌+◌, ◌<◌, option_map, List, [], ◌∷◌, ◌++◌, find, take, length, get_or, Option, Some, None, refl, sym, ap, subst}
 use Rattle.std.proofs.lemmas.List.{take_more}
 use Rattle.gm_metadata.specs.Images.{Image, Sizes, Same, same_label}
 use Rattle.gm_lists.specs.Ordered.{Has}
-use Rattle.gm_lists.proofs.Finding.{found, found_none, not_both, option_cases}
+use Rattle.gm_lists.proofs.Finding.{Has-append_left, found, found_none, not_both, option_cases}
 use Rattle.gm_lists.proofs.Lists.{Has-push}
 use Rattle.gm_lists.proofs.Order.{same_from, same_is}
 use Rattle.gm_shelf.specs.LastSector.{last_of}

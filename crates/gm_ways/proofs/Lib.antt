@@ -1,3 +1,2 @@
 mod FactsShown
 mod Leading
-mod Takes

@@ -1,4 +1,3 @@
 pub mod Judged
 pub mod Shown
-pub mod Taking
 pub mod Ways

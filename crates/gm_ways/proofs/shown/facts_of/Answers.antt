@@ -1,4 +1,4 @@
-use Rattle.std.proofs.Common.{◌≡◌, ◌∙◌, inl, inr, ◌++◌, ◌∷◌, [], List, ℕ, sym, ap, subst, arith, take, None, Option, MatchOption}
+use Rattle.std.proofs.Common.{◌≡◌, ◌∙◌, inl, inr, ◌++◌, ◌∷◌, [], List, ℕ, sym, ap, subst, arith, take, Some, None, Option, MatchOption}
 use Rattle.std.proofs.lemmas.List.{take_all}
 use Rattle.gm_metadata.specs.Images.{Sizes}
 use Rattle.gm_lists.specs.Ordered.{Has}
